@@ -1,0 +1,6 @@
+pub mod Numbers
+pub mod Refusals
+pub mod Promise
+pub mod Table
+pub mod Laws
+pub mod Cases

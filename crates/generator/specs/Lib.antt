@@ -1,0 +1,3 @@
+pub mod Xoshiro
+pub mod Laws
+pub mod Examples

@@ -1,0 +1,5 @@
+pub mod Lattice
+pub mod Shape
+pub mod Tables
+pub mod Examples
+pub mod Laws
