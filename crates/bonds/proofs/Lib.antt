@@ -1,0 +1,5 @@
+pub mod Chain
+pub mod Laws
+pub mod Signs
+pub mod Size
+pub mod Spins
