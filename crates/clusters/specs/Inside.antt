@@ -1,0 +1,10 @@
+pub mod Asked
+pub mod Bare
+pub mod Join
+pub mod Placed
+pub mod Rep
+pub mod Run
+pub mod Steps
+pub mod Sway
+pub mod Turns
+pub mod Whole
