@@ -1,5 +1,5 @@
 -- What an accepted call has passed; and that a number and a place tell the refusal.
-use mathlib.Core.Path.{_≡_, refl, sym, ap, ap₂, _∙_}
+use mathlib.Core.Path.{_≡_, refl, ap}
 use mathlib.Core.Bool.{Bool, true, false, cond, and-eq-true-iff}
 use lib.Dec.{eqb}
 use mathlib.Core.List.{List, [], _∷_}
@@ -11,6 +11,7 @@ use Rattle.domain.specs.declared.Refusal.{Refusal}
 use Rattle.domain.specs.declared.Refusal.the-variants.{Shape, Length, Generator, Classes, Spin, Coupling, Histogram, Row, UnitCoupling, Malformed, Oversize}
 use Rattle.domain.specs.declared.Verdict.{Verdict}
 use Rattle.domain.specs.declared.Verdict.the-variants.{Accept, Refuse}
+use Rattle.domain.specs.Promise.{one-answer}
 use Rattle.domain.specs.Refusals.{numberOf, placeOf, Reply, done, refused, replyOf, need, every, needEach, checks}
 
 pub unlike : (r : Refusal) → Refuse r ≡ Accept → ⊥
@@ -55,12 +56,12 @@ needed-each ok at k (x ∷ xs) d e i h = go (ok x) refl e (λ e′ j l. needed-e
     go false t e rest i h = absurd (unlike (at k) (rw t at e))
 
 -- the refusal of a number and a place
-abbrev refusalAt : ℕ → ℕ → Refusal
+abbrev pub refusalAt : ℕ → ℕ → Refusal
 refusalAt n p =
     cond (eqb n 1) Shape (cond (eqb n 2) Length (cond (eqb n 3) Generator (cond (eqb n 4) Classes (cond (eqb n 5) (Spin p)
     (cond (eqb n 6) (Coupling p) (cond (eqb n 7) (Histogram p) (cond (eqb n 8) Row (cond (eqb n 9) (UnitCoupling p) (cond (eqb n 10) Malformed Oversize)))))))))
 
-case-at : (r : Refusal) → refusalAt (numberOf r) (placeOf r) ≡ r
+pub case-at : (r : Refusal) → refusalAt (numberOf r) (placeOf r) ≡ r
 case-at Shape = refl
 case-at Length = refl
 case-at Generator = refl
@@ -73,9 +74,6 @@ case-at (UnitCoupling b) = refl
 case-at Malformed = refl
 case-at Oversize = refl
 
-pub one-refusal : (r s : Refusal) → numberOf r ≡ numberOf s → placeOf r ≡ placeOf s → r ≡ s
-one-refusal r s n p = sym (case-at r) ∙ ap₂ refusalAt n p ∙ case-at s
-
 abbrev verdictIn : Reply Unit → Verdict
 verdictIn (done t) = Accept
 verdictIn (refused n p) = Refuse (refusalAt n p)
@@ -85,4 +83,4 @@ verdict-back Accept = refl
 verdict-back (Refuse r) = ap Refuse (case-at r)
 
 pub one-verdict : (v w : Verdict) → replyOf v ≡ replyOf w → v ≡ w
-one-verdict v w e = sym (verdict-back v) ∙ ap verdictIn e ∙ verdict-back w
+one-verdict = one-answer replyOf verdictIn verdict-back

@@ -1,4 +1,4 @@
--- What is proved of the clusters and of the winding, on one page. The proofs are in Laws. Assumes nothing.
+-- What is proved of the clusters and of the winding, on one page. The proofs are in Laws.
 -- n is the number of sites, and `Within n bonds` says that every bond's two sites are among them. `step` is any measure of a bond along an
 -- axis; for the axis d it is `along d`. e is the axis's extent.
 use mathlib.Core.Path.{_≡_}

@@ -1,4 +1,4 @@
--- A walk over active bonds, with its sum along an axis. Assumes nothing.
+-- A walk over active bonds, with its sum along an axis.
 use mathlib.Core.List.{List, List·Memᴰ}
 use Prim.Native.Nat.{ℕ, _<_}
 use lib.IntN.{ℤ, pos, _+ℤ_, _-ℤ_}

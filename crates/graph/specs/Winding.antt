@@ -1,5 +1,5 @@
 -- The winding of a list of active bonds, for one axis. `step c` is how far the bond c goes along that axis (`along d` for axis d), and e is
--- the axis's extent. Each site has an offset, its displacement from its root. Assumes nothing.
+-- the axis's extent. Each site has an offset, its displacement from its root.
 use mathlib.Core.Bool.{Bool, false, cond, not, _||_}
 use mathlib.Core.List.{List, [], _∷_}
 use Prim.Native.Nat.{ℕ, _%_}

@@ -1,4 +1,4 @@
--- Offsets are shorter than the component is large. Assumes nothing.
+-- Offsets are shorter than the component is large.
 use mathlib.Core.Path.{_≡_, sym, ap, _∙_, subst}
 use mathlib.Core.List.{List, List·Memᴰ}
 use Prim.Native.Nat.{ℕ, _+_, _≤_, _<_}

@@ -1,4 +1,4 @@
--- Counting a root's sites. Assumes nothing.
+-- Counting a root's sites.
 use mathlib.Core.Path.{_≡_, refl, sym, ap, _∙_, subst}
 use mathlib.Core.Logic.{_≢_, _⊎_, inl, inr}
 use mathlib.Core.Bool.{Bool, cond}

@@ -1,4 +1,4 @@
--- The identities of integers that the winding theory uses, each by the recipe of the crate ints; and multiples. Assumes nothing.
+-- The identities of integers that the winding theory uses, each by the recipe of the crate ints; and multiples.
 use mathlib.Core.Path.{_≡_, sym, ap, _∙_}
 use Prim.Native.Nat.{ℕ, suc, _+_, _*_, _/_, _%_}
 use native.Mathlib.Nat.{mul-mod-left, zero-mul, div-add-mod'}

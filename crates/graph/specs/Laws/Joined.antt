@@ -1,4 +1,4 @@
--- The theorems of the clusters and of the winding flag. Assumes nothing.
+-- The theorems of the clusters and of the winding flag.
 use mathlib.Core.Path.{_≡_, refl, sym, ap, _∙_, subst}
 use mathlib.Core.Logic.{_↔_, _≢_, _⊎_, inl, inr}
 use mathlib.Core.Bool.{Bool, true, false, not}

@@ -1,5 +1,5 @@
 -- What every bond keeps: each site is reached from its root by a walk that sums to its offset, a set flag has a closed walk behind it, and a bond
--- once visited has both ends at one root and, while the flag is clear, one step apart. Assumes nothing.
+-- once visited has both ends at one root and, while the flag is clear, one step apart.
 use mathlib.Core.Path.{_≡_, refl, sym, ap, _∙_, subst, subst₂}
 use mathlib.Core.Logic.{_≢_, _⊎_, inl, inr}
 use mathlib.Core.Bool.{Bool, true, false, not, _||_, true≢false, false≢true}

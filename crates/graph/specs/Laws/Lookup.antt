@@ -1,4 +1,4 @@
--- What stands where in the lists that the definitions make. Assumes nothing.
+-- What stands where in the lists that the definitions make.
 use mathlib.Core.Path.{_≡_, refl, sym, ap, _∙_}
 use mathlib.Core.Logic.{_≢_}
 use mathlib.Core.Bool.{Bool, true, false, cond, not, false≢true}

@@ -1,4 +1,4 @@
--- The winding of a list of bonds has the forest of that list, whatever the axis. Assumes nothing.
+-- The winding of a list of bonds has the forest of that list, whatever the axis.
 use mathlib.Core.Path.{_≡_, refl, ap, _∙_}
 use mathlib.Core.Bool.{Bool, true, false, cond}
 use mathlib.Core.List.{List, [], _∷_, _++_}

@@ -1,4 +1,4 @@
--- No site's component shrinks, and two to a site's rank is at most its component's size. Assumes nothing.
+-- No site's component shrinks, and two to a site's rank is at most its component's size.
 use mathlib.Core.Path.{_≡_, sym, ap, _∙_, subst}
 use mathlib.Core.List.{List}
 use Prim.Native.Nat.{ℕ, suc, _+_, _^_, _≤_, _<_}

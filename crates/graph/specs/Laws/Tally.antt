@@ -1,4 +1,4 @@
--- How many numbers of a row pass a test; a row that is carried into another one to one passes no more often. Assumes nothing.
+-- How many numbers of a row pass a test; a row that is carried into another one to one passes no more often.
 use mathlib.Core.Path.{_≡_, refl, sym, ap, _∙_}
 use mathlib.Core.Logic.{_≢_}
 use mathlib.Core.Bool.{Bool, true, false, cond, not, _&&_}

@@ -1,4 +1,4 @@
--- Where each bond goes by its step modulo the extent, every closed walk sums to a multiple of the extent, so torn is never set. Assumes nothing.
+-- Where each bond goes by its step modulo the extent, every closed walk sums to a multiple of the extent, so torn is never set.
 use mathlib.Core.Path.{_≡_, refl, sym, ap, _∙_, subst}
 use mathlib.Core.Bool.{Bool, true, false, cond, not, _||_}
 use mathlib.Core.List.{List, List·Memᴰ}

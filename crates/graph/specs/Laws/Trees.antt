@@ -1,4 +1,4 @@
--- One bond's effect on a winding: what stays well formed, and what happens to a root and an offset. Assumes nothing.
+-- One bond's effect on a winding: what stays well formed, and what happens to a root and an offset.
 use mathlib.Core.Path.{_≡_, refl, sym, ap, _∙_, subst}
 use mathlib.Core.Logic.{_≢_}
 use mathlib.Core.Bool.{not}

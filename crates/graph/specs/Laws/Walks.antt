@@ -1,4 +1,4 @@
--- Walks are joined end to end, reversed, and carried to a longer list of bonds. Assumes nothing.
+-- Walks are joined end to end, reversed, and carried to a longer list of bonds.
 use mathlib.Core.Path.{sym, subst}
 use mathlib.Core.List.{List}
 use Prim.Native.Nat.{ℕ}
