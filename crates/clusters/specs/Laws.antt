@@ -18,3 +18,4 @@ pub mod Sway
 pub mod Top
 pub mod Turns
 pub mod Whole
+pub mod Outcome
