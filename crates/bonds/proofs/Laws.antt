@@ -7,18 +7,12 @@ use native.Mathlib.Numerals.{add-one}
 use mathlib.Core.Bool.{Bool, true, false, not, _&&_, cond}
 use lib.ListN.{length, getD, drop, drop-of-length-le}
 use lib.Seq.{drop-cons}
-use lib.Dec.{leb}
-use borrow.Author.Tests.{le-leb, lt-leb}
 use lib.Ieee.{Float, nan, lt, eq}
 use lib.Ieee.Scale.{finite}
 use Rattle.bonds.specs.declared.Lookup.{Lookup}
 use Rattle.bonds.specs.declared.Lookup.the-variants.{In, Nowhere}
-use Rattle.domain.specs.declared.Verdict.{Verdict}
-use Rattle.domain.specs.declared.Verdict.the-variants.{Accept, Refuse}
-use Rattle.domain.specs.declared.Refusal.the-variants.{Coupling}
-use Rattle.domain.specs.Refusals.{needEach}
 use Rattle.bonds.specs.Classes.{rising, lookup, missing, badCoupling}
-use Rattle.domain.specs.Numbers.{zeroF, always, thresholdsOk}
+use Rattle.domain.specs.Numbers.{zeroF}
 use Rattle.bonds.specs.Bond.{magnitude}
 
 -- the list from i on begins with the element at i
@@ -61,20 +55,6 @@ module _ (p : Float) (ws : List Float) (i : ℕ) (h : i < length ws) where
 pub rising-ended : (p : Float) (ws : List Float) (i : ℕ) → length ws ≤ i → rising p (drop i ws) ≡ true
 rising-ended p ws i h = rw (at-end ws i h)
 
--- ---- thresholds
-module _ (ts : List ℕ) (i : ℕ) (h : i < length ts) where
-  thresholds-step : thresholdsOk (drop i ts) ≡ (leb (getD ts i 0) always && thresholdsOk (drop (i + 1) ts))
-  thresholds-step = rw (at-index 0 ts i h)
-
-  pub thresholds-over : always < getD ts i 0 → thresholdsOk (drop i ts) ≡ false
-  thresholds-over g = thresholds-step ∙ rw (lt-leb (getD ts i 0) always g)
-
-  pub thresholds-passed : getD ts i 0 ≤ always → thresholdsOk (drop i ts) ≡ thresholdsOk (drop (i + 1) ts)
-  thresholds-passed g = thresholds-step ∙ rw (le-leb (getD ts i 0) always g)
-
-pub thresholds-ended : (ts : List ℕ) (i : ℕ) → length ts ≤ i → thresholdsOk (drop i ts) ≡ true
-thresholds-ended ts i h = rw (at-end ts i h)
-
 -- ---- a bad coupling
 module _ (ws : List Float) (ts : List ℕ) (j : Float) where
   pub not-finite : finite j ≡ false → true ≡ badCoupling ws ts j
@@ -86,24 +66,6 @@ module _ (ws : List Float) (ts : List ℕ) (j : Float) where
   pub by-lookup : finite j ≡ true → eq j zeroF ≡ false → {l : Lookup} → l ≡ lookup (magnitude j) ws ts → missing l ≡ badCoupling ws ts j
   by-lookup e g p = rw (e, g, p)
 
--- ---- the first bad coupling of those from k on: found at k, passed at k, at the end
+-- neither not finite nor in no class
 abbrev pub fair : List Float → List ℕ → Float → Bool
 fair ws ts j = not (badCoupling ws ts j)
-
-abbrev pub badFrom : List Float → List ℕ → List Float → ℕ → Verdict
-badFrom ws ts js k = needEach (fair ws ts) Coupling k (drop k js)
-
-module _ (ws : List Float) (ts : List ℕ) (js : List Float) (k : ℕ) where
-  badFrom-step : k < length js → badFrom ws ts js k ≡ cond (fair ws ts (getD js k nan)) (badFrom ws ts js (k + 1)) (Refuse (Coupling k))
-  unfolding needEach
-  badFrom-step h = rw (at-index nan js k h, add-one)
-
-  pub badFrom-found : k < length js → badCoupling ws ts (getD js k nan) ≡ true → badFrom ws ts js k ≡ Refuse (Coupling k)
-  badFrom-found h e = badFrom-step h ∙ rw e
-
-  pub badFrom-passed : k < length js → badCoupling ws ts (getD js k nan) ≡ false → badFrom ws ts js k ≡ badFrom ws ts js (k + 1)
-  badFrom-passed h e = badFrom-step h ∙ rw e
-
-  pub badFrom-ended : length js ≤ k → badFrom ws ts js k ≡ Accept
-  unfolding needEach
-  badFrom-ended h = rw (at-end js k h)

@@ -1,8 +1,8 @@
 -- Step 1 of an update, for one bond: no draw where it is idle, and one draw, compared with its class's threshold, where it pulls.
 use Prim.Native.Nat.{ℕ}
-use mathlib.Core.Bool.{false, cond}
+use mathlib.Core.Bool.{false}
 use mathlib.Core.List.{List}
-use lib.Dec.{eqb, ltb}
+use lib.Dec.{ltb}
 use lib.Ieee.{Float}
 use Rattle.generator.specs.declared.Xoshiro256StarStar.{Xoshiro256StarStar}
 use Rattle.generator.specs.Xoshiro.{step, drawOf}

@@ -9,7 +9,7 @@ ghost use lib.ListN.{length};
 ghost use lib.Dec.{T};
 ghost use lib.Ieee.{eq};
 ghost use lib.Ieee.Scale.{finite};
-ghost use Rattle.domain.specs.Numbers.{isSpin, zeroF, thresholdsOk};
+ghost use Rattle.domain.specs.Numbers.{isSpin, zeroF};
 ghost use Rattle.domain.specs.Refusals.{needEach};
 ghost use Rattle.domain.specs.declared.Refusal.the-variants.{Coupling};
 ghost use Rattle.bonds.specs.Bond.{bondOf, magnitude};
@@ -94,19 +94,6 @@ fn weights_ok(weights: &[f32]) -> bool
     true
 }
 
-fn thresholds_ok(thresholds: &[u64]) -> bool
-    ensures { λ r. ⌜ r ≡ thresholdsOk (now (thresholds .entry)) ⌝ }
-{
-    let mut i = 0;
-    while i < thresholds.len() {
-        if 4611686018427387904 < thresholds[i] {
-            return false;
-        }
-        i += 1;
-    }
-    true
-}
-
 // Refusal 4.
 pub fn classes_ok(weights: &[f32], thresholds: &[u64]) -> bool
     ensures { λ r. ⌜ r ≡ classesOk (now (weights .entry)) (now (thresholds .entry)) ⌝ }
@@ -120,7 +107,7 @@ pub fn classes_ok(weights: &[f32], thresholds: &[u64]) -> bool
     if !weights_ok(weights) {
         return false;
     }
-    thresholds_ok(thresholds)
+    domain::thresholds_ok(thresholds)
 }
 
 // A nonzero coupling without its sign.

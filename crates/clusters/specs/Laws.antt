@@ -1,7 +1,6 @@
 pub mod Asked
 pub mod Counts
 pub mod Drawn
-pub mod Each
 pub mod Fills
 pub mod Forest
 pub mod Histogram

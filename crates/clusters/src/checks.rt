@@ -9,7 +9,7 @@ ghost use lib.Dec.{eqb};
 ghost use lib.ListN.{length};
 ghost use Rattle.domain.specs.declared.Refusal.the-variants.{Spin, Histogram};
 ghost use Rattle.domain.specs.Numbers.{isSpin, isEntry};
-ghost use Rattle.domain.specs.Refusals.{needEach, checks};
+ghost use Rattle.domain.specs.Refusals.{all, needEach, checks};
 ghost use Rattle.clusters.specs.Inside.Asked.{lensOk, valuesAsked, allAsked};
 
 // The lengths of what is lent.
@@ -38,44 +38,48 @@ pub(crate) fn both(a: bool, b: bool) -> bool
     if a { b } else { false }
 }
 
-fn is_spin(s: i8) -> bool
-    ensures { λ r. ⌜ r ≡ isSpin s ⌝ }
+fn is_entry(h: u64) -> bool
+    ensures { λ r. ⌜ r ≡ isEntry h ⌝ }
 {
-    if s == 1 {
-        return true;
-    }
-    if s == -1 {
-        return true;
-    }
-    false
+    h <= 9223372036854775808
 }
 
-// Refusal 5: the first site whose spin is neither 1 nor -1.
-fn first_bad_spin(spins: &[i8]) -> Verdict
-    ensures { λ r. ⌜ r ≡ needEach isSpin Spin 0 (now (spins .entry)) ⌝ }
+// No early exit, so that the machine takes many entries at once.
+fn all_entries(histogram: &[u64]) -> bool
+    ensures { λ r. ⌜ r ≡ all isEntry (now (histogram .entry)) ⌝ }
 {
-    let mut i = 0;
-    while i < spins.len() {
-        if !is_spin(spins[i]) {
-            return Verdict::Refuse(Refusal::Spin(i));
-        }
+    let mut ok = true;
+    let mut i: usize = 0;
+    while i < histogram.len() {
+        ok = ok & is_entry(histogram[i]);
         i += 1;
     }
-    Verdict::Accept
+    ok
 }
 
-// Refusal 7: the first entry above 2^63.
+// The first entry above 2^63.
 fn first_big(histogram: &[u64]) -> Verdict
     ensures { λ r. ⌜ r ≡ needEach isEntry Histogram 0 (now (histogram .entry)) ⌝ }
 {
     let mut i = 0;
     while i < histogram.len() {
-        if 9223372036854775808 < histogram[i] {
+        if !is_entry(histogram[i]) {
             return Verdict::Refuse(Refusal::Histogram(i));
         }
         i += 1;
     }
     Verdict::Accept
+}
+
+// Refusal 7. The search runs only where some entry is too high.
+fn judge_entries(histogram: &[u64]) -> Verdict
+    ensures { λ r. ⌜ r ≡ needEach isEntry Histogram 0 (now (histogram .entry)) ⌝ }
+{
+    if all_entries(histogram) {
+        Verdict::Accept
+    } else {
+        first_big(histogram)
+    }
 }
 
 // Refusal 2: n sites, b bonds.
@@ -109,11 +113,11 @@ fn judge_values(
     requires { ⌜ length (now weights) ≡ length (now thresholds) ⌝ }
     ensures { λ r. ⌜ r ≡ checks (valuesAsked (now (spins .entry)) (now (couplings .entry)) (now (weights .entry)) (now (thresholds .entry)) (now (histogram .entry))) ⌝ }
 {
-    match first_bad_spin(spins) {
+    match domain::judge_spins(spins) {
         Verdict::Refuse(r) => Verdict::Refuse(r),
         Verdict::Accept => match bonds::first_bad(couplings, sites, axes, weights, thresholds) {
             Verdict::Refuse(r) => Verdict::Refuse(r),
-            Verdict::Accept => first_big(histogram),
+            Verdict::Accept => judge_entries(histogram),
         },
     }
 }

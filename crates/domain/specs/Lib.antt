@@ -4,3 +4,4 @@ pub mod Promise
 pub mod Table
 pub mod Laws
 pub mod Cases
+pub mod Each

@@ -55,6 +55,11 @@ unfoldable pub every : List Bool → Bool
 every [] = true
 every (b ∷ bs) = b && every bs
 
+-- every entry of a list passes the test
+unfoldable pub all {ℓ} : {A : Type ℓ} → (A → Bool) → List A → Bool
+all ok [] = true
+all ok (x ∷ xs) = ok x && all ok xs
+
 -- the first entry from place k on that fails the test, refused with its place
 unfoldable pub needEach {ℓ} : {A : Type ℓ} → (A → Bool) → (ℕ → Refusal) → ℕ → List A → Verdict
 needEach ok at k [] = Accept

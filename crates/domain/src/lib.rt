@@ -1,4 +1,10 @@
-// Why a call is refused. specs/Refusals.antt gives the number and the place of each case.
+// Why a call is refused, and the checks that every call makes alike.
+ghost use mathlib.Core.Path.{_≡_};
+ghost use Rattle.domain.specs.declared.Refusal.the-variants.{Spin};
+ghost use Rattle.domain.specs.Numbers.{isSpin, thresholdsOk};
+ghost use Rattle.domain.specs.Refusals.{all, needEach};
+
+// specs/Refusals.antt gives the number and the place of each case.
 pub enum Refusal {
     Shape,
     Length,
@@ -17,4 +23,61 @@ pub enum Refusal {
 pub enum Verdict {
     Accept,
     Refuse(Refusal),
+}
+
+fn is_spin(s: i8) -> bool
+    ensures { λ r. ⌜ r ≡ isSpin s ⌝ }
+{
+    (s == 1) | (s == -1)
+}
+
+// No early exit, so that the machine takes many spins at once.
+fn all_spins(spins: &[i8]) -> bool
+    ensures { λ r. ⌜ r ≡ all isSpin (now (spins .entry)) ⌝ }
+{
+    let mut ok = true;
+    let mut i: usize = 0;
+    while i < spins.len() {
+        ok = ok & is_spin(spins[i]);
+        i += 1;
+    }
+    ok
+}
+
+fn first_bad_spin(spins: &[i8]) -> Verdict
+    ensures { λ r. ⌜ r ≡ needEach isSpin Spin 0 (now (spins .entry)) ⌝ }
+{
+    let mut i = 0;
+    while i < spins.len() {
+        if !is_spin(spins[i]) {
+            return Verdict::Refuse(Refusal::Spin(i));
+        }
+        i += 1;
+    }
+    Verdict::Accept
+}
+
+// Refusal 5. The search runs only where some spin is bad.
+pub fn judge_spins(spins: &[i8]) -> Verdict
+    ensures { λ r. ⌜ r ≡ needEach isSpin Spin 0 (now (spins .entry)) ⌝ }
+{
+    if all_spins(spins) {
+        Verdict::Accept
+    } else {
+        first_bad_spin(spins)
+    }
+}
+
+// Whether each threshold is at most 2^62.
+pub fn thresholds_ok(thresholds: &[u64]) -> bool
+    ensures { λ r. ⌜ r ≡ thresholdsOk (now (thresholds .entry)) ⌝ }
+{
+    let mut i = 0;
+    while i < thresholds.len() {
+        if 4611686018427387904 < thresholds[i] {
+            return false;
+        }
+        i += 1;
+    }
+    true
 }

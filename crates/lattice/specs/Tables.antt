@@ -3,7 +3,7 @@ use Prim.Native.Nat.{ℕ, _*_}
 use mathlib.Core.Bool.{_&&_}
 use mathlib.Core.List.{List, [], _∷_}
 use lib.ListN.{length}
-use lib.Dec.{eqb, leb}
+use lib.Dec.{eqb}
 use Rattle.domain.specs.declared.Verdict.{Verdict}
 use Rattle.domain.specs.declared.Verdict.the-variants.{Accept, Refuse}
 use Rattle.domain.specs.declared.Refusal.the-variants.{Shape, Length}

@@ -1,12 +1,15 @@
--- `classes::first_bad` meets its contract. The invariants: the first bad bond is the first from this site on, and from this direction of it on.
+-- `bonds::first_bad` meets its contract. The invariants: the first bad bond is the first from this site on, and from this direction of it on.
 use borrow.Author.Needs.{needs}
 use native.Mathlib.Omega.{arith}
 use mathlib.Core.Path.{_≡_, sym, ap, _∙_}
 use Prim.Native.Nat.{ℕ, _+_, _*_, _≤_, _<_, _-_, zero-le}
+use mathlib.Core.Bool.{not}
+use lib.Ieee.{nan}
 use lib.ListN.{length}
 use Rattle.domain.specs.declared.Refusal.the-variants.{Coupling}
 use Rattle.domain.specs.Refusals.{needEach}
-use Rattle.bonds.proofs.Laws.{fair, badFrom, badFrom-found, badFrom-passed, badFrom-ended}
+use Rattle.bonds.proofs.Laws.{fair}
+use Rattle.domain.specs.Each.{eachFrom, each-found, each-passed, each-ended}
 use lib.Arith.{digits-lt, lt-of-le-ne}
 use native.Mathlib.Nat.{zero-mul, add-zero, add-mul, one-mul, add-assoc, le-of-eq}
 use Rattle.bonds.proofs.first_bad.Statement.{statement}
@@ -14,14 +17,14 @@ use Rattle.bonds.proofs.first_bad.Tie as tie
 
 abbrev Inv-loop : tie.InvT-loop
 Inv-loop couplings sites axes weights thresholds site d₀ d =
-    (d ≤ axes) × (needEach (fair weights thresholds) Coupling 0 couplings ≡ badFrom weights thresholds couplings (site * axes + d))
+    (d ≤ axes) × (needEach (fair weights thresholds) Coupling 0 couplings ≡ eachFrom (fair weights thresholds) Coupling couplings (site * axes + d))
 
 abbrev μ-loop : tie.MeasureT-loop
 μ-loop couplings sites axes weights thresholds site d₀ d = axes - d
 
 abbrev Inv-search : tie.InvT-search
 Inv-search couplings sites axes weights thresholds site₀ site =
-    (site ≤ sites) × (needEach (fair weights thresholds) Coupling 0 couplings ≡ badFrom weights thresholds couplings (site * axes))
+    (site ≤ sites) × (needEach (fair weights thresholds) Coupling 0 couplings ≡ eachFrom (fair weights thresholds) Coupling couplings (site * axes))
 
 abbrev μ-search : tie.MeasureT-search
 μ-search couplings sites axes weights thresholds site₀ site = sites - site
@@ -39,13 +42,13 @@ in-range c =
 search-holds : tie.Need-search-holds Inv-loop μ-loop Inv-search μ-search
 search-holds c =
     let x = c .before .before .before .args in
-    (zero-le, ap (badFrom (x .weights .now) (x .thresholds .now) (x .couplings .now)) (sym (zero-mul (x .axes))))
+    (zero-le, ap (eachFrom (fair (x .weights .now) (x .thresholds .now)) Coupling (x .couplings .now)) (sym (zero-mul (x .axes))))
 
 loop-holds : tie.Need-loop-holds Inv-loop μ-loop Inv-search μ-search
 loop-holds c =
     let q = c .before in
     let x = q .before .before .before .before .args in
-    (zero-le, q .search .inv .1 ∙ ap (badFrom (x .weights .now) (x .thresholds .now) (x .couplings .now)) (sym (add-zero (q .search .site * x .axes))))
+    (zero-le, q .search .inv .1 ∙ ap (eachFrom (fair (x .weights .now) (x .thresholds .now)) Coupling (x .couplings .now)) (sym (add-zero (q .search .site * x .axes))))
 
 mul-bond : tie.Need-mul-bond Inv-loop μ-loop Inv-search μ-search
 mul-bond c = omega (arith, in-range c)
@@ -76,8 +79,8 @@ loop-again c =
     let k = q .search .site * x .axes + p .before .loop .d in (
       omega arith,
       p .before .loop .inv .1
-          ∙ badFrom-passed (x .weights .now) (x .thresholds .now) (x .couplings .now) k (in-range p) (sym (c .before .is-bad .ensures) ∙ c .if2 .left)
-          ∙ ap (badFrom (x .weights .now) (x .thresholds .now) (x .couplings .now)) (add-assoc (q .search .site * x .axes) (p .before .loop .d) 1),
+          ∙ each-passed (fair (x .weights .now) (x .thresholds .now)) nan (x .couplings .now) Coupling k (in-range p) (ap not (sym (c .before .is-bad .ensures) ∙ c .if2 .left))
+          ∙ ap (eachFrom (fair (x .weights .now) (x .thresholds .now)) Coupling (x .couplings .now)) (add-assoc (q .search .site * x .axes) (p .before .loop .d) 1),
     )
 
 add-site : tie.Need-add-site Inv-loop μ-loop Inv-search μ-search
@@ -94,7 +97,7 @@ search-again c =
     let more : site < x .sites = lt-of-le-ne (q .search .inv .0) (c .before .before .if1 .left) in
     let full : c .before .loop .d ≡ x .axes = omega arith in (
       omega arith,
-      c .before .loop .inv .1 ∙ ap (badFrom (x .weights .now) (x .thresholds .now) (x .couplings .now)) (row-end site (x .axes) (c .before .loop .d) full),
+      c .before .loop .inv .1 ∙ ap (eachFrom (fair (x .weights .now) (x .thresholds .now)) Coupling (x .couplings .now)) (row-end site (x .axes) (c .before .loop .d) full),
     )
 
 returns : tie.Need-returns Inv-loop μ-loop Inv-search μ-search
@@ -103,7 +106,7 @@ returns c =
     let x = q .before .before .before .before .args in
     sym
     (q .search .inv .1
-    ∙ badFrom-ended (x .weights .now) (x .thresholds .now) (x .couplings .now) (q .search .site * x .axes)
+    ∙ each-ended (fair (x .weights .now) (x .thresholds .now)) Coupling (x .couplings .now) (q .search .site * x .axes)
     (le-of-eq (q .before .before .before .before .pre .0 ∙ ap (λ (n : ℕ). n * x .axes) (sym (c .if1 .taken)))))
 
 returns-2 : tie.Need-returns-2 Inv-loop μ-loop Inv-search μ-search
@@ -114,7 +117,7 @@ returns-2 c =
     let k = q .search .site * x .axes + p .before .loop .d in
     sym
     (p .before .loop .inv .1
-    ∙ badFrom-found (x .weights .now) (x .thresholds .now) (x .couplings .now) k (in-range p) (sym (c .before .is-bad .ensures) ∙ c .if2 .taken))
+    ∙ each-found (fair (x .weights .now) (x .thresholds .now)) nan (x .couplings .now) Coupling k (in-range p) (ap not (sym (c .before .is-bad .ensures) ∙ c .if2 .taken)))
 
 pub first-bad-spec : {M : Type 1} → statement M
 first-bad-spec =

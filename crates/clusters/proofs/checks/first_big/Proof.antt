@@ -1,13 +1,14 @@
-use mathlib.Core.Path.{_≡_, refl, sym, _∙_}
-use Prim.Native.Nat.{_≤_, _-_, _^_}
-use native.Mathlib.Omega.{arith}
+-- `clusters::checks::first_big` meets its contract. The invariant: the verdict is that from this entry on.
 use borrow.Author.Needs.{needs}
-use borrow.Author.Tests.{le-leb, lt-leb}
+use borrow.Author.Tests.{not-true, not-false}
+use mathlib.Core.Path.{_≡_, refl, sym, ap, _∙_}
+use Prim.Native.Nat.{_≤_, _-_}
+use native.Mathlib.Omega.{arith}
 use lib.ListN.{length, getD}
-use Rattle.domain.specs.declared.Refusal.the-variants.{Histogram}
 use Rattle.domain.specs.Numbers.{isEntry}
 use Rattle.domain.specs.Refusals.{needEach}
-use Rattle.clusters.specs.Laws.Each.{eachFrom, each-found, each-passed, each-ended}
+use Rattle.domain.specs.declared.Refusal.the-variants.{Histogram}
+use Rattle.domain.specs.Each.{eachFrom, each-found, each-passed, each-ended}
 use Rattle.clusters.proofs.checks.first_big.Statement.{statement}
 use Rattle.clusters.proofs.checks.first_big.Tie as tie
 
@@ -20,17 +21,19 @@ abbrev μ-loop : tie.MeasureT-loop
 loop-holds : tie.Need-loop-holds Inv-loop μ-loop
 loop-holds c = (omega arith, refl)
 
-mul-if1 : tie.Need-mul-if1 Inv-loop μ-loop
-mul-if1 c = search needs
+mul-is-entry : tie.Need-mul-is-entry Inv-loop μ-loop
+mul-is-entry c = omega arith
 
-shared-slice-read-if1 : tie.Need-shared-slice-read-if1 Inv-loop μ-loop
-shared-slice-read-if1 c = search needs
+shared-slice-read-is-entry : tie.Need-shared-slice-read-is-entry Inv-loop μ-loop
+shared-slice-read-is-entry c = omega arith
+
+is-entry-requires : tie.Need-is-entry-requires Inv-loop μ-loop
+is-entry-requires c κs = search needs
 
 returns : tie.Need-returns Inv-loop μ-loop
 returns c =
-    let l = c .before .before .before in
-    let hs = l .before .args .histogram .now in
-    sym (l .loop .inv .1 ∙ each-found isEntry Histogram hs 0 (l .loop .i) (c .before .before .loop-test .taken) (lt-leb (getD hs (l .loop .i) 0) (2 ^ 63) (c .if1 .taken)))
+    let l = c .before .before .before .before in
+    sym (l .loop .inv .1 ∙ each-found isEntry 0 _ Histogram _ (c .before .before .before .loop-test .taken) (sym (c .before .is-entry .ensures) ∙ not-true _ (c .if1 .taken)))
 
 add-i : tie.Need-add-i Inv-loop μ-loop
 add-i c = omega arith
@@ -40,12 +43,11 @@ loop-less c = omega arith
 
 loop-again : tie.Need-loop-again Inv-loop μ-loop
 loop-again c =
-    let l = c .before .before .before in
-    let hs = l .before .args .histogram .now in
-    (omega arith, l .loop .inv .1 ∙ each-passed isEntry Histogram hs 0 (l .loop .i) (c .before .before .loop-test .taken) (le-leb (getD hs (l .loop .i) 0) (2 ^ 63) (c .if1 .left)))
+    let l = c .before .before .before .before in
+    (omega arith, l .loop .inv .1 ∙ each-passed isEntry 0 _ Histogram _ (c .before .before .before .loop-test .taken) (sym (c .before .is-entry .ensures) ∙ not-false _ (c .if1 .left)))
 
 returns-2 : tie.Need-returns-2 Inv-loop μ-loop
-returns-2 c = sym (c .before .loop .inv .1 ∙ each-ended isEntry Histogram (c .before .before .args .histogram .now) (c .before .loop .i) (c .loop-test .left))
+returns-2 c = sym (c .before .loop .inv .1 ∙ each-ended isEntry Histogram _ _ (c .loop-test .left))
 
 pub first-big-spec : {M : Type 1} → statement M
 first-big-spec =
@@ -54,8 +56,9 @@ first-big-spec =
     Inv-loop
     μ-loop
     loop-holds
-    mul-if1
-    shared-slice-read-if1
+    mul-is-entry
+    shared-slice-read-is-entry
+    is-entry-requires
     returns
     add-i
     loop-less

@@ -4,8 +4,8 @@ use borrow.Author.Needs.{needs}
 use Rattle.clusters.proofs.checks.judge_values.Statement.{statement}
 use Rattle.clusters.proofs.checks.judge_values.Tie as tie
 
-first-bad-spin-requires : tie.Need-first-bad-spin-requires
-first-bad-spin-requires c κs = search needs
+judge-spins-requires : tie.Need-judge-spins-requires
+judge-spins-requires c κs = search needs
 
 enum-known-r : tie.Need-enum-known-r
 enum-known-r c = search needs
@@ -22,34 +22,34 @@ enum-known-r-2 c = search needs
 enum-told-2 : tie.Need-enum-told-2
 enum-told-2 c = search needs
 
-first-big-requires : tie.Need-first-big-requires
-first-big-requires c κs = search needs
+judge-entries-requires : tie.Need-judge-entries-requires
+judge-entries-requires c κs = search needs
 
 returns : tie.Need-returns
-returns c = refused-first _ _ _ (sym (c .before .before .before .first-bad-spin .ensures) ∙ c .before .r .given .1)
+returns c = refused-first _ _ _ (sym (c .before .before .before .judge-spins .ensures) ∙ c .before .r .given .1)
 
 returns-2 : tie.Need-returns-2
 returns-2 c =
     refused-first _ _ _ (sym (c .before .before .before .first-bad .ensures) ∙ c .before .r2 .given .1)
-    ∙ passed-first _ _ (sym (c .before .before .before .before .before .before .first-bad-spin .ensures) ∙ c .before .before .before .before .enum-told .given .1)
+    ∙ passed-first _ _ (sym (c .before .before .before .before .before .before .judge-spins .ensures) ∙ c .before .before .before .before .enum-told .given .1)
 
 returns-3 : tie.Need-returns-3
 returns-3 c =
-    c .first-big .ensures ∙ only-one _
+    c .judge-entries .ensures ∙ only-one _
     ∙ passed-first _ _ (sym (c .before .before .before .first-bad .ensures) ∙ c .before .enum-told2 .given .1)
-    ∙ passed-first _ _ (sym (c .before .before .before .before .before .before .first-bad-spin .ensures) ∙ c .before .before .before .before .enum-told .given .1)
+    ∙ passed-first _ _ (sym (c .before .before .before .before .before .before .judge-spins .ensures) ∙ c .before .before .before .before .enum-told .given .1)
 
 pub judge-values-spec : {M : Type 1} → statement M
 judge-values-spec =
     tie.close
     (tie.spec
-    first-bad-spin-requires
+    judge-spins-requires
     enum-known-r
     enum-told
     first-bad-requires
     enum-known-r-2
     enum-told-2
-    first-big-requires
+    judge-entries-requires
     returns
     returns-2
     returns-3)

@@ -1,3 +1,4 @@
+-- `domain::first_bad_spin` meets its contract. The invariant: the verdict is that from this site on.
 use lib.IntN.{pos}
 use mir.Syntax.{w8}
 use mir.ValLaws.{toZ-ofZ}
@@ -6,12 +7,12 @@ use mathlib.Core.Path.{_≡_, refl, sym, ap, _∙_}
 use Prim.Native.Nat.{_≤_, _-_}
 use native.Mathlib.Omega.{arith}
 use lib.ListN.{length, getD}
-use Rattle.domain.specs.declared.Refusal.the-variants.{Spin}
 use Rattle.domain.specs.Numbers.{isSpin}
 use Rattle.domain.specs.Refusals.{needEach}
-use Rattle.clusters.specs.Laws.Each.{eachFrom, each-found, each-passed, each-ended}
-use Rattle.clusters.proofs.checks.first_bad_spin.Statement.{statement}
-use Rattle.clusters.proofs.checks.first_bad_spin.Tie as tie
+use Rattle.domain.specs.declared.Refusal.the-variants.{Spin}
+use Rattle.domain.specs.Each.{eachFrom, each-found, each-passed, each-ended}
+use Rattle.domain.proofs.first_bad_spin.Statement.{statement}
+use Rattle.domain.proofs.first_bad_spin.Tie as tie
 
 abbrev Inv-loop : tie.InvT-loop
 Inv-loop spins i₀ i = (i ≤ length spins) × (needEach isSpin Spin 0 spins ≡ eachFrom isSpin Spin spins i)
@@ -35,7 +36,7 @@ is-spin-requires c κs = tt
 returns : tie.Need-returns Inv-loop μ-loop
 returns c =
     let l = c .before .before .before .before in
-    sym (l .loop .inv .1 ∙ each-found isSpin Spin _ (pos 0) _ (c .before .before .before .loop-test .taken) (sym (spin-read (c .before)) ∙ not-true _ (c .if1 .taken)))
+    sym (l .loop .inv .1 ∙ each-found isSpin (pos 0) _ Spin _ (c .before .before .before .loop-test .taken) (sym (spin-read (c .before)) ∙ not-true _ (c .if1 .taken)))
 
 add-i : tie.Need-add-i Inv-loop μ-loop
 add-i c = omega arith
@@ -46,7 +47,7 @@ loop-less c = omega arith
 loop-again : tie.Need-loop-again Inv-loop μ-loop
 loop-again c =
     let l = c .before .before .before .before in
-    (omega arith, l .loop .inv .1 ∙ each-passed isSpin Spin _ (pos 0) _ (c .before .before .before .loop-test .taken) (sym (spin-read (c .before)) ∙ not-false _ (c .if1 .left)))
+    (omega arith, l .loop .inv .1 ∙ each-passed isSpin (pos 0) _ Spin _ (c .before .before .before .loop-test .taken) (sym (spin-read (c .before)) ∙ not-false _ (c .if1 .left)))
 
 returns-2 : tie.Need-returns-2 Inv-loop μ-loop
 returns-2 c = sym (c .before .loop .inv .1 ∙ each-ended isSpin Spin _ _ (c .loop-test .left))

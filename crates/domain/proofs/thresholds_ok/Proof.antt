@@ -1,13 +1,13 @@
--- `classes::thresholds_ok` meets its contract. The invariant: the thresholds are low enough if those from i on are.
+-- `domain::thresholds_ok` meets its contract. The invariant: the thresholds are low enough if those from i on are.
 use borrow.Author.Needs.{needs}
 use native.Mathlib.Omega.{arith}
 use mathlib.Core.Path.{_≡_, sym, _∙_}
 use Prim.Native.Nat.{_≤_, _-_}
 use lib.ListN.{length, drop}
 use Rattle.domain.specs.Numbers.{thresholdsOk}
-use Rattle.bonds.proofs.Laws.{thresholds-over, thresholds-passed, thresholds-ended}
-use Rattle.bonds.proofs.thresholds_ok.Statement.{statement}
-use Rattle.bonds.proofs.thresholds_ok.Tie as tie
+use Rattle.domain.specs.Each.{low-over, low-passed, low-ended}
+use Rattle.domain.proofs.thresholds_ok.Statement.{statement}
+use Rattle.domain.proofs.thresholds_ok.Tie as tie
 
 abbrev Inv-loop : tie.InvT-loop
 Inv-loop thresholds i₀ i = (i ≤ length thresholds) × (thresholdsOk thresholds ≡ thresholdsOk (drop i thresholds))
@@ -28,7 +28,7 @@ returns : tie.Need-returns Inv-loop μ-loop
 returns c =
     let q = c .before .before .before in
     let ts = q .before .args .thresholds .now in
-    sym (q .loop .inv .1 ∙ thresholds-over ts (q .loop .i) (omega arith) (c .if1 .taken))
+    sym (q .loop .inv .1 ∙ low-over ts (q .loop .i) (omega arith) (c .if1 .taken))
 
 add-i : tie.Need-add-i Inv-loop μ-loop
 add-i c = search needs
@@ -40,12 +40,12 @@ loop-again : tie.Need-loop-again Inv-loop μ-loop
 loop-again c =
     let q = c .before .before .before in
     let ts = q .before .args .thresholds .now in
-    (omega arith, q .loop .inv .1 ∙ thresholds-passed ts (q .loop .i) (omega arith) (c .if1 .left))
+    (omega arith, q .loop .inv .1 ∙ low-passed ts (q .loop .i) (omega arith) (c .if1 .left))
 
 returns-2 : tie.Need-returns-2 Inv-loop μ-loop
 returns-2 c =
     let q = c .before in
-    sym (q .loop .inv .1 ∙ thresholds-ended (q .before .args .thresholds .now) (q .loop .i) (omega arith))
+    sym (q .loop .inv .1 ∙ low-ended (q .before .args .thresholds .now) (q .loop .i) (omega arith))
 
 pub thresholds-ok-spec : {M : Type 1} → statement M
 thresholds-ok-spec =
