@@ -43,26 +43,6 @@ fn toss_at(
     }
 }
 
-// A coin for each component.
-fn toss_all(
-    roots: &[u32],
-    decisions: &mut [u8],
-    generator: Xoshiro256StarStar,
-) -> Xoshiro256StarStar
-    requires { ⌜ now decisions ≡ replicate (length (now roots)) 2 ⌝ }
-    requires { ⌜ ((i : ℕ) → i < length (now roots) → getD (now roots) i 0 < length (now roots)) ⌝ }
-    ensures { λ r. ⌜ coinsOf (now (decisions .exit)) r ≡ coins (now (roots .entry)) generator (length (now (roots .entry))) ⌝ }
-{
-    let mut state = generator;
-    let mut i: usize = 0;
-    while i < roots.len() {
-        let next = toss_at(roots, decisions, i, state);
-        state = next;
-        i += 1;
-    }
-    state
-}
-
 // One spin negated where it lies.
 fn negate_at(spins: &mut [i8], site: usize)
     requires { ⌜ site < length (now spins) ⌝ }
@@ -87,22 +67,7 @@ fn turn_at(roots: &[u32], decisions: &[u8], spins: &mut [i8], i: usize)
     }
 }
 
-// Every component with heads is negated whole.
-fn turn_all(roots: &[u32], decisions: &[u8], spins: &mut [i8])
-    requires { ⌜ length (now decisions) ≡ length (now roots) ⌝ }
-    requires { ⌜ length (now roots) ≡ length (now spins) ⌝ }
-    requires { ⌜ ((i : ℕ) → i < length (now roots) → getD (now roots) i 0 < length (now roots)) ⌝ }
-    requires { ⌜ T (allSpins (now spins)) ⌝ }
-    ensures { λ _. ⌜ now (spins .exit) ≡ turned (now (decisions .entry)) (now (roots .entry)) (now (spins .entry)) ⌝ }
-{
-    let mut i: usize = 0;
-    while i < spins.len() {
-        turn_at(roots, decisions, spins, i);
-        i += 1;
-    }
-}
-
-// Coins and spins of an update.
+// A coin for each component, and the spins of those with heads negated.
 pub(crate) fn flip(
     roots: &[u32],
     decisions: &mut [u8],
@@ -117,7 +82,13 @@ pub(crate) fn flip(
 {
     // 2: no component has its coin yet
     fill_bytes(decisions, 2);
-    let state = toss_all(roots, decisions, generator);
-    turn_all(roots, decisions, spins);
+    let mut state = generator;
+    let mut i: usize = 0;
+    while i < roots.len() {
+        let next = toss_at(roots, decisions, i, state);
+        turn_at(roots, decisions, spins, i);
+        state = next;
+        i += 1;
+    }
     state
 }
