@@ -1,0 +1,63 @@
+-- The row's end is reached.
+use borrow.Author.Needs.{needs}
+use Prim.Native.Nat.{_-_}
+use lib.ListN.{length}
+use Rattle.show.proofs.words.Statement.{statement}
+use Rattle.show.proofs.words.Tie as tie
+
+abbrev Inv-loop : tie.InvT-loop
+Inv-loop row i₀ t3 i = Unit
+
+abbrev μ-loop : tie.MeasureT-loop
+μ-loop row i₀ t3 i = length row - i
+
+loop-holds : tie.Need-loop-holds Inv-loop μ-loop
+loop-holds c = tt
+
+mul-of-word : tie.Need-mul-of-word Inv-loop μ-loop
+mul-of-word c = search needs
+
+shared-slice-read-of-word : tie.Need-shared-slice-read-of-word Inv-loop μ-loop
+shared-slice-read-of-word c = search needs
+
+of-word-requires : tie.Need-of-word-requires Inv-loop μ-loop
+of-word-requires c κs = search needs
+
+entry-requires : tie.Need-entry-requires Inv-loop μ-loop
+entry-requires c κs = search needs
+
+add-i : tie.Need-add-i Inv-loop μ-loop
+add-i c = search needs
+
+loop-less : tie.Need-loop-less Inv-loop μ-loop
+loop-less c = search needs
+
+loop-again : tie.Need-loop-again Inv-loop μ-loop
+loop-again c = tt
+
+slice-aggregate-label : tie.Need-slice-aggregate-label Inv-loop μ-loop
+slice-aggregate-label c = search needs
+
+label-requires : tie.Need-label-requires Inv-loop μ-loop
+label-requires c κs = search needs
+
+returns : tie.Need-returns Inv-loop μ-loop
+returns c = search needs
+
+pub words-spec : {M : Type 1} → statement M
+words-spec =
+    tie.close
+    (tie.spec
+    Inv-loop
+    μ-loop
+    loop-holds
+    mul-of-word
+    shared-slice-read-of-word
+    of-word-requires
+    entry-requires
+    add-i
+    loop-less
+    loop-again
+    slice-aggregate-label
+    label-requires
+    returns)

@@ -1,0 +1,152 @@
+// Writes what a call leaves to standard output, for the programs whose output is compared.
+// No contract can say what is written, so the functions that write are proved safe and no more.
+ghost use mathlib.Core.Path.{_≡_};
+ghost use Rattle.domain.specs.Refusals.{numberOf, placeOf};
+use domain::Refusal;
+use generator::Xoshiro256StarStar;
+
+pub fn label(text: &[u8]) {
+    io::write_all(1, text);
+}
+
+pub fn number(n: u64) {
+    io::print_decimal(1, n);
+}
+
+pub fn signed(n: i64) {
+    if n < 0 {
+        label(b"-");
+    }
+    number(ints::magnitude(n));
+}
+
+// A spin as its sign, and any other value as its number.
+fn spin(s: i8) {
+    if s == 1 {
+        label(b"+");
+    } else if s == -1 {
+        label(b"-");
+    } else {
+        signed(s as i64);
+    }
+}
+
+pub fn spins(row: &[i8]) {
+    let mut i: usize = 0;
+    while i < row.len() {
+        spin(row[i]);
+        i += 1;
+    }
+    label(b"\n");
+}
+
+// An entry of a row: a space stands before each but the first.
+fn entry(i: usize, n: u64) {
+    if 0 < i {
+        label(b" ");
+    }
+    number(n);
+}
+
+fn of_byte(b: u8) -> u64 {
+    b as u64
+}
+
+fn of_word(w: u32) -> u64 {
+    w as u64
+}
+
+pub fn bytes(row: &[u8]) {
+    let mut i: usize = 0;
+    while i < row.len() {
+        entry(i, of_byte(row[i]));
+        i += 1;
+    }
+    label(b"\n");
+}
+
+pub fn words(row: &[u32]) {
+    let mut i: usize = 0;
+    while i < row.len() {
+        entry(i, of_word(row[i]));
+        i += 1;
+    }
+    label(b"\n");
+}
+
+pub fn longs(row: &[u64]) {
+    let mut i: usize = 0;
+    while i < row.len() {
+        entry(i, row[i]);
+        i += 1;
+    }
+    label(b"\n");
+}
+
+fn signed_entry(i: usize, n: i64) {
+    if 0 < i {
+        label(b" ");
+    }
+    signed(n);
+}
+
+pub fn wides(row: &[i64]) {
+    let mut i: usize = 0;
+    while i < row.len() {
+        signed_entry(i, row[i]);
+        i += 1;
+    }
+    label(b"\n");
+}
+
+pub fn state(generator: Xoshiro256StarStar) {
+    entry(0, generator.s0);
+    entry(1, generator.s1);
+    entry(2, generator.s2);
+    entry(3, generator.s3);
+    label(b"\n");
+}
+
+// The number of a refusal, and its place.
+fn number_of(reason: Refusal) -> u64
+    ensures { λ r. ⌜ r ≡ numberOf reason ⌝ }
+{
+    match reason {
+        Refusal::Shape => 1,
+        Refusal::Length => 2,
+        Refusal::Generator => 3,
+        Refusal::Classes => 4,
+        Refusal::Spin(_) => 5,
+        Refusal::Coupling(_) => 6,
+        Refusal::Histogram(_) => 7,
+        Refusal::Row => 8,
+        Refusal::UnitCoupling(_) => 9,
+        Refusal::Malformed => 10,
+        Refusal::Oversize => 11,
+    }
+}
+
+fn place_of(reason: Refusal) -> usize
+    ensures { λ r. ⌜ r ≡ placeOf reason ⌝ }
+{
+    match reason {
+        Refusal::Shape => 0,
+        Refusal::Length => 0,
+        Refusal::Generator => 0,
+        Refusal::Classes => 0,
+        Refusal::Spin(site) => site,
+        Refusal::Coupling(bond) => bond,
+        Refusal::Histogram(size) => size,
+        Refusal::Row => 0,
+        Refusal::UnitCoupling(bond) => bond,
+        Refusal::Malformed => 0,
+        Refusal::Oversize => 0,
+    }
+}
+
+pub fn refusal(reason: Refusal) {
+    label(b"refused");
+    entry(1, number_of(reason));
+    entry(2, place_of(reason) as u64);
+    label(b"\n");
+}
