@@ -40,12 +40,11 @@ pub fn spins(row: &[i8]) {
     label(b"\n");
 }
 
-// An entry of a row: a space stands before each but the first.
-fn entry(i: usize, n: u64) {
+// A space before each entry of a row but the first.
+fn gap(i: usize) {
     if 0 < i {
         label(b" ");
     }
-    number(n);
 }
 
 fn of_byte(b: u8) -> u64 {
@@ -59,7 +58,8 @@ fn of_word(w: u32) -> u64 {
 pub fn bytes(row: &[u8]) {
     let mut i: usize = 0;
     while i < row.len() {
-        entry(i, of_byte(row[i]));
+        gap(i);
+        number(of_byte(row[i]));
         i += 1;
     }
     label(b"\n");
@@ -68,7 +68,8 @@ pub fn bytes(row: &[u8]) {
 pub fn words(row: &[u32]) {
     let mut i: usize = 0;
     while i < row.len() {
-        entry(i, of_word(row[i]));
+        gap(i);
+        number(of_word(row[i]));
         i += 1;
     }
     label(b"\n");
@@ -77,34 +78,25 @@ pub fn words(row: &[u32]) {
 pub fn longs(row: &[u64]) {
     let mut i: usize = 0;
     while i < row.len() {
-        entry(i, row[i]);
+        gap(i);
+        number(row[i]);
         i += 1;
     }
     label(b"\n");
 }
 
-fn signed_entry(i: usize, n: i64) {
-    if 0 < i {
-        label(b" ");
-    }
-    signed(n);
-}
-
 pub fn wides(row: &[i64]) {
     let mut i: usize = 0;
     while i < row.len() {
-        signed_entry(i, row[i]);
+        gap(i);
+        signed(row[i]);
         i += 1;
     }
     label(b"\n");
 }
 
 pub fn state(generator: Xoshiro256StarStar) {
-    entry(0, generator.s0);
-    entry(1, generator.s1);
-    entry(2, generator.s2);
-    entry(3, generator.s3);
-    label(b"\n");
+    longs(&[generator.s0, generator.s1, generator.s2, generator.s3]);
 }
 
 // The number of a refusal, and its place.
@@ -145,8 +137,6 @@ fn place_of(reason: Refusal) -> usize
 }
 
 pub fn refusal(reason: Refusal) {
-    label(b"refused");
-    entry(1, number_of(reason));
-    entry(2, place_of(reason) as u64);
-    label(b"\n");
+    label(b"refused ");
+    longs(&[number_of(reason), place_of(reason) as u64]);
 }

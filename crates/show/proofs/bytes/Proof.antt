@@ -14,14 +14,17 @@ abbrev μ-loop : tie.MeasureT-loop
 loop-holds : tie.Need-loop-holds Inv-loop μ-loop
 loop-holds c = tt
 
+gap-requires : tie.Need-gap-requires Inv-loop μ-loop
+gap-requires c κs = search needs
+
 shared-slice-read-of-byte : tie.Need-shared-slice-read-of-byte Inv-loop μ-loop
 shared-slice-read-of-byte c = search needs
 
 of-byte-requires : tie.Need-of-byte-requires Inv-loop μ-loop
 of-byte-requires c κs = search needs
 
-entry-requires : tie.Need-entry-requires Inv-loop μ-loop
-entry-requires c κs = search needs
+number-requires : tie.Need-number-requires Inv-loop μ-loop
+number-requires c κs = search needs
 
 add-i : tie.Need-add-i Inv-loop μ-loop
 add-i c = search needs
@@ -48,9 +51,10 @@ bytes-spec =
     Inv-loop
     μ-loop
     loop-holds
+    gap-requires
     shared-slice-read-of-byte
     of-byte-requires
-    entry-requires
+    number-requires
     add-i
     loop-less
     loop-again

@@ -14,14 +14,17 @@ abbrev μ-loop : tie.MeasureT-loop
 loop-holds : tie.Need-loop-holds Inv-loop μ-loop
 loop-holds c = tt
 
-mul-signed-entry : tie.Need-mul-signed-entry Inv-loop μ-loop
-mul-signed-entry c = search needs
+gap-requires : tie.Need-gap-requires Inv-loop μ-loop
+gap-requires c κs = search needs
 
-shared-slice-copy-out-signed-entry : tie.Need-shared-slice-copy-out-signed-entry Inv-loop μ-loop
-shared-slice-copy-out-signed-entry c = search needs
+mul-signed : tie.Need-mul-signed Inv-loop μ-loop
+mul-signed c = search needs
 
-signed-entry-requires : tie.Need-signed-entry-requires Inv-loop μ-loop
-signed-entry-requires c κs = search needs
+shared-slice-copy-out-signed : tie.Need-shared-slice-copy-out-signed Inv-loop μ-loop
+shared-slice-copy-out-signed c = search needs
+
+signed-requires : tie.Need-signed-requires Inv-loop μ-loop
+signed-requires c κs = search needs
 
 add-i : tie.Need-add-i Inv-loop μ-loop
 add-i c = search needs
@@ -48,9 +51,10 @@ wides-spec =
     Inv-loop
     μ-loop
     loop-holds
-    mul-signed-entry
-    shared-slice-copy-out-signed-entry
-    signed-entry-requires
+    gap-requires
+    mul-signed
+    shared-slice-copy-out-signed
+    signed-requires
     add-i
     loop-less
     loop-again

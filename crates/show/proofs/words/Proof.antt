@@ -14,6 +14,9 @@ abbrev μ-loop : tie.MeasureT-loop
 loop-holds : tie.Need-loop-holds Inv-loop μ-loop
 loop-holds c = tt
 
+gap-requires : tie.Need-gap-requires Inv-loop μ-loop
+gap-requires c κs = search needs
+
 mul-of-word : tie.Need-mul-of-word Inv-loop μ-loop
 mul-of-word c = search needs
 
@@ -23,8 +26,8 @@ shared-slice-read-of-word c = search needs
 of-word-requires : tie.Need-of-word-requires Inv-loop μ-loop
 of-word-requires c κs = search needs
 
-entry-requires : tie.Need-entry-requires Inv-loop μ-loop
-entry-requires c κs = search needs
+number-requires : tie.Need-number-requires Inv-loop μ-loop
+number-requires c κs = search needs
 
 add-i : tie.Need-add-i Inv-loop μ-loop
 add-i c = search needs
@@ -51,10 +54,11 @@ words-spec =
     Inv-loop
     μ-loop
     loop-holds
+    gap-requires
     mul-of-word
     shared-slice-read-of-word
     of-word-requires
-    entry-requires
+    number-requires
     add-i
     loop-less
     loop-again
