@@ -57,9 +57,6 @@ rising-ended p ws i h = rw (at-end ws i h)
 
 -- ---- a bad coupling
 module _ (ws : List Float) (ts : List ℕ) (j : Float) where
-  pub not-finite : finite j ≡ false → true ≡ badCoupling ws ts j
-  not-finite e = rw e
-
   pub is-zero : finite j ≡ true → eq j zeroF ≡ true → false ≡ badCoupling ws ts j
   is-zero e g = rw (e, g)
 

@@ -11,7 +11,7 @@ use lib.ListN.{length, getD}
 use lib.Dec.{eqb}
 use lib.IntN.{ℤ, negℤ}
 use Rattle.domain.specs.declared.Refusal.{Refusal}
-use Rattle.domain.specs.declared.Verdict.the-variants.{Accept, Refuse}
+use Rattle.domain.specs.declared.Verdict.the-variants.{Refuse}
 use Rattle.domain.specs.Promise.{Promised}
 use Rattle.lattice.specs.Lattice.{extent, coord}
 use Rattle.lattice.specs.Laws.Neighbours.{domain}

@@ -7,8 +7,8 @@ ghost use mathlib.Core.Bool.{true, _&&_};
 ghost use Prim.Native.Nat.{_*_, _≤_};
 ghost use lib.Dec.{eqb};
 ghost use lib.ListN.{length};
-ghost use Rattle.domain.specs.declared.Refusal.the-variants.{Spin, Histogram};
-ghost use Rattle.domain.specs.Numbers.{isSpin, isEntry};
+ghost use Rattle.domain.specs.declared.Refusal.the-variants.{Histogram};
+ghost use Rattle.domain.specs.Numbers.{isEntry};
 ghost use Rattle.domain.specs.Refusals.{all, needEach, checks};
 ghost use Rattle.clusters.specs.Inside.Asked.{lensOk, valuesAsked, allAsked};
 

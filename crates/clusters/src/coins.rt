@@ -6,12 +6,12 @@ ghost use mathlib.Core.Path.{_≡_};
 ghost use mathlib.Core.Bool.{cond};
 ghost use Prim.Native.Nat.{ℕ, _<_};
 ghost use lib.Dec.{T};
-ghost use lib.ListN.{length, getD, set, replicate};
+ghost use lib.ListN.{length, getD, set};
 ghost use lib.IntN.{pos, negℤ};
 ghost use Rattle.domain.specs.Numbers.{isSpin};
 ghost use Rattle.bonds.specs.Visit.{allSpins};
 ghost use Rattle.clusters.specs.Inside.Bare.{bare};
-ghost use Rattle.clusters.specs.Update.{toss, coins, turned, ended};
+ghost use Rattle.clusters.specs.Update.{toss, ended};
 ghost use Rattle.clusters.specs.declared.Action.the-variants.{Update};
 ghost use Rattle.clusters.specs.Inside.Turns.{coinsOf, turnedAt};
 

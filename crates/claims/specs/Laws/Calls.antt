@@ -6,7 +6,6 @@ use mathlib.Core.List.{List}
 use Prim.Native.Nat.{ℕ, _<_}
 use native.Mathlib.Omega.{arith}
 use lib.ListN.{length, getD}
-use Rattle.domain.specs.declared.Verdict.the-variants.{Accept}
 use Rattle.lattice.specs.Lattice.{extent, coord}
 use Rattle.graph.specs.Forest.{Forest, rootOf, forest}
 use Rattle.graph.specs.Winding.{along}
@@ -14,7 +13,7 @@ use Rattle.graph.specs.Walk.{Among, Within}
 use Rattle.graph.specs.Theorems as T
 use Rattle.graph.specs.Laws.Roots.{Sound, sound-forest}
 use Rattle.clusters.specs.declared.Action.the-variants.{Update}
-use Rattle.clusters.specs.Call.{Call, Lent, size, bonds, judge}
+use Rattle.clusters.specs.Call.{Call, Lent, size, bonds}
 use Rattle.clusters.specs.Observation.{windingOf}
 use Rattle.clusters.specs.Update.{Seen, Outcome, Coins, drawn, active, coins, turned, ended, accepted}
 use Rattle.claims.specs.Terms.{Ran, Wound, rootIn, raise}

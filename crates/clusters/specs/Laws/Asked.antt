@@ -36,9 +36,6 @@ only-one Accept = refl
 only-one (Refuse r) = refl
 
 module _ (sh : List ℕ) (ss : List ℤ) (js ws : List Float) (ts : List ℕ) (g : Xoshiro256StarStar) (hs : List ℕ) (z : Lens) where
-  abbrev Verdicts : Verdict
-  Verdicts = checks (allAsked sh ss js ws ts g hs z)
-
   pub bad-shape : inDomain sh ≡ false → Refuse Shape ≡ checks (allAsked sh ss js ws ts g hs z)
   unfolding checks
   bad-shape e = rw e

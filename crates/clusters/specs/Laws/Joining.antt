@@ -97,12 +97,3 @@ rank-below k {f} i g lt e small =
     let d = count-bound i (f .roots) in
     let m : 2 ^ k ≤ 2 ^ getD (f .ranks) i 0 = pow-mono (omega arith) in
     absurd (omega arith))
-
--- and so does every other
-pub ranks-below : (k : ℕ) {f : Forest} (i : ℕ) → Grown f → i < length (f .roots) → length (f .roots) < 2 ^ k → getD (f .ranks) i 0 < k
-ranks-below k {f} i g lt small =
-    by-dec (ℕ-discrete (getD (f .roots) i 0) i) (λ e. rank-below k i g lt e small)
-    (λ n.
-    let a = g .tall i lt n in
-    let b = rank-below k (getD (f .roots) i 0) g (g .inside i lt) (g .rooted i lt) small in
-    omega arith)

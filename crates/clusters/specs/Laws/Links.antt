@@ -47,22 +47,6 @@ hangs-fresh n = record {
   };
 }
 
--- a way is shortened: a site that is no root gets a parent of its own tree with a higher rank
-pub hangs-shorter : (n : ℕ) (ps : List ℕ) (f : Forest) (j p : ℕ) → Hangs n ps f → j < n → p < n → getD ps j 0 ≢ j
-    → rankOf f j < rankOf f p → rootOf f p ≡ rootOf f j → Hangs n (set ps j p) f
-hangs-shorter n ps f j p hangs hj hp d up same = record {
-  parents-n = length-set ps j p ∙ hangs .parents-n;
-  hung = set-each ps j p 0 (λ i q. i < n → Hung n f i q) (omega (arith, hangs .parents-n))
-      (λ _. record {
-        parent-lt = hp;
-        ends = λ e. let z : rankOf f p ≡ rankOf f j = ap (rankOf f) e in absurd (omega arith);
-        tops = λ e. absurd (d (hangs .hung j hj .tops e));
-        rises = λ _. up;
-        same-root = same;
-      })
-      (λ i _ h. hangs .hung i h);
-}
-
 -- a root takes over another's sites: the loser's parent is the winner
 pub hangs-absorb : (n : ℕ) (ps : List ℕ) (f : Forest) (w l : ℕ) → Sound n f → Apart n f w l → rankOf f l ≤ rankOf f w
     → Hangs n ps f → Hangs n (set ps l w) (absorb f w l)

@@ -1,10 +1,10 @@
 -- `clusters::checks::first_big` meets its contract. The invariant: the verdict is that from this entry on.
 use borrow.Author.Needs.{needs}
 use borrow.Author.Tests.{not-true, not-false}
-use mathlib.Core.Path.{_≡_, refl, sym, ap, _∙_}
+use mathlib.Core.Path.{_≡_, refl, sym, _∙_}
 use Prim.Native.Nat.{_≤_, _-_}
 use native.Mathlib.Omega.{arith}
-use lib.ListN.{length, getD}
+use lib.ListN.{length}
 use Rattle.domain.specs.Numbers.{isEntry}
 use Rattle.domain.specs.Refusals.{needEach}
 use Rattle.domain.specs.declared.Refusal.the-variants.{Histogram}
