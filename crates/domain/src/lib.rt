@@ -2,7 +2,7 @@
 ghost use mathlib.Core.Path.{_≡_};
 ghost use Rattle.domain.specs.declared.Refusal.the-variants.{Spin};
 ghost use Rattle.domain.specs.Numbers.{isSpin, thresholdsOk};
-ghost use Rattle.domain.specs.Refusals.{all, needEach};
+ghost use Rattle.domain.specs.Refusals.{all, needEach, numberOf, placeOf};
 
 // specs/Refusals.antt gives the number and the place of each case.
 pub enum Refusal {
@@ -23,6 +23,43 @@ pub enum Refusal {
 pub enum Verdict {
     Accept,
     Refuse(Refusal),
+}
+
+// The number of a refusal, and its place.
+pub fn number_of(reason: Refusal) -> u64
+    ensures { λ r. ⌜ r ≡ numberOf reason ⌝ }
+{
+    match reason {
+        Refusal::Shape => 1,
+        Refusal::Length => 2,
+        Refusal::Generator => 3,
+        Refusal::Classes => 4,
+        Refusal::Spin(_) => 5,
+        Refusal::Coupling(_) => 6,
+        Refusal::Histogram(_) => 7,
+        Refusal::Row => 8,
+        Refusal::UnitCoupling(_) => 9,
+        Refusal::Malformed => 10,
+        Refusal::Oversize => 11,
+    }
+}
+
+pub fn place_of(reason: Refusal) -> usize
+    ensures { λ r. ⌜ r ≡ placeOf reason ⌝ }
+{
+    match reason {
+        Refusal::Shape => 0,
+        Refusal::Length => 0,
+        Refusal::Generator => 0,
+        Refusal::Classes => 0,
+        Refusal::Spin(site) => site,
+        Refusal::Coupling(bond) => bond,
+        Refusal::Histogram(size) => size,
+        Refusal::Row => 0,
+        Refusal::UnitCoupling(bond) => bond,
+        Refusal::Malformed => 0,
+        Refusal::Oversize => 0,
+    }
 }
 
 fn is_spin(s: i8) -> bool

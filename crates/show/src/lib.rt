@@ -1,7 +1,6 @@
 // Writes what a call leaves to standard output, for the programs whose output is compared.
 // No contract can say what is written, so the functions that write are proved safe and no more.
 ghost use mathlib.Core.Path.{_≡_};
-ghost use Rattle.domain.specs.Refusals.{numberOf, placeOf};
 use domain::Refusal;
 use generator::Xoshiro256StarStar;
 
@@ -99,44 +98,7 @@ pub fn state(generator: Xoshiro256StarStar) {
     longs(&[generator.s0, generator.s1, generator.s2, generator.s3]);
 }
 
-// The number of a refusal, and its place.
-fn number_of(reason: Refusal) -> u64
-    ensures { λ r. ⌜ r ≡ numberOf reason ⌝ }
-{
-    match reason {
-        Refusal::Shape => 1,
-        Refusal::Length => 2,
-        Refusal::Generator => 3,
-        Refusal::Classes => 4,
-        Refusal::Spin(_) => 5,
-        Refusal::Coupling(_) => 6,
-        Refusal::Histogram(_) => 7,
-        Refusal::Row => 8,
-        Refusal::UnitCoupling(_) => 9,
-        Refusal::Malformed => 10,
-        Refusal::Oversize => 11,
-    }
-}
-
-fn place_of(reason: Refusal) -> usize
-    ensures { λ r. ⌜ r ≡ placeOf reason ⌝ }
-{
-    match reason {
-        Refusal::Shape => 0,
-        Refusal::Length => 0,
-        Refusal::Generator => 0,
-        Refusal::Classes => 0,
-        Refusal::Spin(site) => site,
-        Refusal::Coupling(bond) => bond,
-        Refusal::Histogram(size) => size,
-        Refusal::Row => 0,
-        Refusal::UnitCoupling(bond) => bond,
-        Refusal::Malformed => 0,
-        Refusal::Oversize => 0,
-    }
-}
-
 pub fn refusal(reason: Refusal) {
     label(b"refused ");
-    longs(&[number_of(reason), place_of(reason) as u64]);
+    longs(&[domain::number_of(reason), domain::place_of(reason) as u64]);
 }
