@@ -1,4 +1,6 @@
 // A bond's state, its weight class, and whether it is active.
+#![tactic(auto)]
+
 ghost use Rattle.std.specs.Prelude.{◌≡◌, ◌*◌, ◌<◌, false, not, length, T};
 ghost use Rattle.std.specs.Float.Ieee.{eq};
 ghost use Rattle.std.specs.Float.Ieee.Scale.{finite};
@@ -13,7 +15,7 @@ ghost use Rattle.bonds.specs.Visit.{all_spins, visit_of};
 use domain::{Refusal, Verdict};
 use generator::Xoshiro256StarStar;
 
-#[derive(Drop)]
+#[derive(Clone, Copy)]
 pub enum BondState {
     Idle,
     Pull(f32),
@@ -34,13 +36,13 @@ fn bond_state(a: i8, b: i8, coupling: f32) -> BondState
 }
 
 // A weight class: one weight together with its threshold.
-#[derive(Drop)]
+#[derive(Clone, Copy)]
 pub struct Class {
     pub weight: f32,
     pub threshold: u64,
 }
 
-#[derive(Drop)]
+#[derive(Clone, Copy)]
 pub enum Lookup {
     In(Class),
     Nowhere,
@@ -164,7 +166,7 @@ pub fn first_bad(
 }
 
 // Whether a bond is active, with the generator after its draw, if it took one.
-#[derive(Drop)]
+#[derive(Clone, Copy)]
 pub struct Activation {
     pub active: bool,
     pub state: Xoshiro256StarStar,

@@ -9,7 +9,7 @@ use domain::{Refusal, Verdict};
 use generator::Xoshiro256StarStar;
 
 // The lengths of what is lent.
-#[derive(Drop)]
+#[derive(Clone, Copy)]
 pub(crate) struct Lens {
     pub(crate) spins: usize,
     pub(crate) couplings: usize,

@@ -18,7 +18,7 @@ use generator::Xoshiro256StarStar;
 use lattice::Shape;
 
 // The extents of the first two axes, and whether there are just two.
-#[derive(Drop)]
+#[derive(Clone, Copy)]
 pub(crate) struct Plane {
     pub(crate) ex: u64,
     pub(crate) ey: u64,
@@ -26,7 +26,7 @@ pub(crate) struct Plane {
 }
 
 // The generator, the number of active bonds, and the flags so far.
-#[derive(Drop)]
+#[derive(Clone, Copy)]
 pub(crate) struct Pass {
     pub(crate) state: Xoshiro256StarStar,
     pub(crate) active: usize,

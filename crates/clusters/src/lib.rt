@@ -1,4 +1,6 @@
 // Fortuin-Kasteleyn clusters of a spin tile: one update or one observation.
+#![tactic(auto)]
+
 mod checks;
 mod coins;
 mod fk;
@@ -13,14 +15,14 @@ use checks::Lens;
 use domain::{Refusal, Verdict};
 use generator::Xoshiro256StarStar;
 
-#[derive(Drop)]
+#[derive(Clone, Copy)]
 pub enum Action {
     Observe,
     Update,
 }
 
 // The four largest component sizes, descending.
-#[derive(Drop)]
+#[derive(Clone, Copy)]
 pub struct Top {
     pub first: usize,
     pub second: usize,
@@ -29,13 +31,13 @@ pub struct Top {
 }
 
 // The winding flags, for axis 0 and axis 1.
-#[derive(Drop)]
+#[derive(Clone, Copy)]
 pub struct Flags {
     pub x: bool,
     pub y: bool,
 }
 
-#[derive(Drop)]
+#[derive(Clone, Copy)]
 pub struct Observation {
     pub components: usize,
     pub active: usize,
@@ -45,7 +47,7 @@ pub struct Observation {
     pub torn: bool,
 }
 
-#[derive(Drop)]
+#[derive(Clone, Copy)]
 pub enum Answer {
     Done(Xoshiro256StarStar, Observation),
     Refused(Refusal),

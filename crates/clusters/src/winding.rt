@@ -9,7 +9,7 @@ use crate::utils::wide;
 use ints::{minus, negated, plus};
 
 // What a bond between two sites comes to.
-#[derive(Drop)]
+#[derive(Clone, Copy)]
 pub(crate) enum Closing {
     // Their components are joined.
     Joined,
@@ -18,7 +18,7 @@ pub(crate) enum Closing {
 }
 
 // The flags of the two axes, and torn.
-#[derive(Drop)]
+#[derive(Clone, Copy)]
 pub(crate) struct Marks {
     pub(crate) x: bool,
     pub(crate) y: bool,
@@ -26,7 +26,7 @@ pub(crate) struct Marks {
 }
 
 // Where a walk ends, and how far from there it began on each axis.
-#[derive(Drop)]
+#[derive(Clone, Copy)]
 pub(crate) struct Found {
     pub(crate) root: usize,
     pub(crate) x: i64,
@@ -85,7 +85,7 @@ pub(crate) fn winding_find(parent: &[u32], rank: &[u8], offset: &[i64], site: us
 }
 
 // A bond's two roots, and the way around it.
-#[derive(Drop)]
+#[derive(Clone, Copy)]
 pub(crate) struct Way {
     pub(crate) a: usize,
     pub(crate) b: usize,

@@ -2,6 +2,5 @@ pub mod Numbers
 pub mod Refusals
 pub mod Promise
 pub mod Table
-pub mod Laws
 pub mod Cases
 pub mod Each

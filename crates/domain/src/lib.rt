@@ -1,11 +1,13 @@
 // Why a call is refused, and the checks that every call makes alike.
+#![tactic(auto)]
+
 ghost use Rattle.std.specs.Prelude.{◌≡◌};
 ghost use Rattle.domain.specs.declared.Refusal.TheVariants.{Spin};
 ghost use Rattle.domain.specs.Numbers.{is_spin, thresholds_ok};
 ghost use Rattle.domain.specs.Refusals.{all, need_each, number_of, place_of};
 
 // specs/Refusals.antt gives the number and the place of each case.
-#[derive(Drop)]
+#[derive(Clone, Copy)]
 pub enum Refusal {
     Shape,
     Length,
@@ -21,7 +23,7 @@ pub enum Refusal {
 }
 
 // What the checks of a call come to.
-#[derive(Drop)]
+#[derive(Clone, Copy)]
 pub enum Verdict {
     Accept,
     Refuse(Refusal),

@@ -1,1 +1,2 @@
 // The clusters of a list of active bonds, as definitions and theorems: specs/ alone.
+#![tactic(auto)]

@@ -1,4 +1,6 @@
 // The periodic lattice: a shape's check, the neighbours of a site, and the tables of them.
+#![tactic(auto)]
+
 ghost use Rattle.std.specs.Prelude.{◌≡◌, true, ◌+◌, ◌*◌, ◌%◌, ◌≤◌, ◌<◌, length, set};
 ghost use Rattle.lattice.specs.Lattice.{extent, sites, in_range, ahead, behind, fwd, bwd, in_domain, fwd_table, bwd_table};
 ghost use Rattle.domain.specs.Promise.{Promised};
@@ -8,7 +10,7 @@ ghost use Rattle.lattice.specs.Shape.{OnAxis, shape_for, extents_of, Good, rests
 use domain::{Refusal, Verdict};
 
 // A shape in the domain: past the last axis, extents and strides are 1.
-#[derive(Drop)]
+#[derive(Clone, Copy)]
 pub struct Shape {
     pub axes: usize,
     pub sites: usize,

@@ -1,4 +1,6 @@
 // Writes the first ten outputs from the state (1, 2, 3, 4), a line each.
+#![tactic(auto)]
+
 use generator::Xoshiro256StarStar;
 
 fn main() {

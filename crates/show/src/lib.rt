@@ -1,5 +1,7 @@
 // Writes what a call leaves to standard output, for the programs whose output is compared.
 // No contract can say what is written, so the functions that write are proved safe and no more.
+#![tactic(auto)]
+
 ghost use Rattle.std.specs.Prelude.{◌≡◌};
 
 use domain::Refusal;

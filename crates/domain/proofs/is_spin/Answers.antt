@@ -1,16 +1,7 @@
 -- `domain::is_spin` meets its contract: -1 has the bits 255.
-use mathlib.Core.Path.{◌≡◌, refl, sym, ◌∙◌}
-use mathlib.Core.Bool.{Bool, true, false, ◌||◌}
-use Prim.Native.Nat.{ℕ, zero, suc, ◌-◌}
-use native.Mathlib.Omega.{arith}
-use borrow.Author.Tests.{ne_eqb}
-use lib.Dec.{eqb}
-use lib.IntN.{ℤ, pos, negsuc}
-use mir.Syntax.{w8}
-use mir.Val.{SFits, of_z}
+use Rattle.std.proofs.Common.{◌≡◌, ◌∙◌, refl, Bool, true, false, eqb, ℤ, pos, negsuc, sym, arith, ◌||◌, ℕ, zero, suc, ◌-◌, ne_eqb, w8, SFits, of_z}
 use Rattle.domain.specs.Numbers.{is_spin}
-use Rattle.domain.proofs.is_spin.Statement.{statement}
-use Rattle.domain.proofs.is_spin.Tie as tie
+use Rattle.domain.proofs.is_spin.Goals as goal
 
 or-false : (b : Bool) → (b || false) ≡ b
 or-false true = refl
@@ -24,8 +15,5 @@ by_bits : (s : ℤ) → SFits w8 s → (eqb (of_z w8 s) 1 || eqb (of_z w8 s) 255
 by_bits (pos n) f = rw (ne_eqb n 255 (λ e. omega arith)) (or-false (eqb n 1))
 by_bits (negsuc n) f = rw (ne_eqb (256 - suc n) 1 (λ e. omega arith)) (minus n)
 
-returns : tie.Need-returns
+pub returns : goal.returns
 returns c = by_bits c.args.s c.ranges.s
-
-pub is-spin-spec : {M : Type 1} → statement M
-is-spin-spec = tie.close (tie.spec returns)
