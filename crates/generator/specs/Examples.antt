@@ -1,5 +1,5 @@
 -- W1: the first outputs and draws from the state (1, 2, 3, 4), by computation.
-use Rattle.std.specs.Prelude.{◌≡◌, ℕ, zero, suc, Bool, true, false, List, [], ◌∷◌, refl}
+use Rattle.std.specs.Prelude.{◌≡◌, ℕ, zero, suc, List, [], ◌∷◌, refl}
 use Rattle.generator.specs.declared.Xoshiro256StarStar.{Xoshiro256StarStar}
 use Rattle.generator.specs.Xoshiro.{output, step, draw_of}
 
