@@ -11,7 +11,7 @@ use Rattle.domain.specs.declared.Refusal.{Refusal}
 use Rattle.domain.specs.declared.Verdict.TheVariants.{Refuse}
 use Rattle.domain.specs.Promise.{Promised}
 use Rattle.lattice.specs.Lattice.{extent, coord}
-use Rattle.lattice.specs.Laws.Neighbours.{domain}
+use Rattle.lattice.proofs.Laws.Neighbours.{domain}
 use Rattle.graph.specs.Forest.{Bond, root_of, total, largest, components}
 use Rattle.graph.specs.Winding.{along}
 use Rattle.graph.specs.Walk.{Walk, Among}

@@ -6,10 +6,10 @@ use native.Mathlib.Omega.{arith}
 use native.Mathlib.Nat.{lt_of_mul-lt-mul_right, zero-mul, add-mul}
 use lib.ListN.{length, get_or, set, length-set}
 use Rattle.lattice.specs.Lattice.{sites, ahead, behind, fwd_at, bwd_at, fwd_table, bwd_table}
-use Rattle.lattice.specs.Laws.Neighbours.{domain}
+use Rattle.lattice.proofs.Laws.Neighbours.{domain}
 use Rattle.lattice.specs.Shape.{OnAxis, extents_of, Good, rests_for}
-use Rattle.lattice.specs.Laws.Shape.{axes-of, axes-le, sites-of, ahead-fwd, behind-bwd, rests-zero, placed as on-the}
-use Rattle.lattice.specs.Laws.Rows.{Filled, filled_none, filled_more, filled-all, fwd_at-row, bwd_at-row}
+use Rattle.lattice.proofs.Laws.Shape.{axes-of, axes-le, sites-of, ahead-fwd, behind-bwd, rests-zero, placed as on-the}
+use Rattle.lattice.proofs.Laws.Rows.{Filled, filled_none, filled_more, filled-all, fwd_at-row, bwd_at-row}
 use Rattle.lattice.specs.declared.Shape.{Shape}
 
 -- the entries before k, that of the site and the axis, are right in both tables; the rests are the site's

@@ -2,4 +2,3 @@ pub mod Lattice
 pub mod Shape
 pub mod Tables
 pub mod Examples
-pub mod Laws

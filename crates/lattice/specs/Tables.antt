@@ -3,7 +3,7 @@ use Rattle.std.specs.Prelude.{ℕ, ◌*◌, ◌&&◌, List, [], ◌∷◌, lengt
 use Rattle.domain.specs.declared.Verdict.{Verdict}
 use Rattle.domain.specs.declared.Verdict.TheVariants.{Accept, Refuse}
 use Rattle.domain.specs.declared.Refusal.TheVariants.{Shape, Length}
-use Rattle.domain.specs.Refusals.{Reply, done, refused_as, reply_of, need, checks}
+use Rattle.domain.specs.Refusals.{Reply, reply_of, need, checks}
 use Rattle.lattice.specs.Lattice.{sites, in_domain, fwd_table, bwd_table}
 
 -- the checks in order, by the lengths of the two tables

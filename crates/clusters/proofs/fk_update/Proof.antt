@@ -1,8 +1,8 @@
 use Prim.Native.Nat.{ℕ}
 use mathlib.Core.Path.{sym, ap, subst, ◌∙◌}
 use mathlib.Core.List.{List}
-use Rattle.lattice.specs.Laws.Neighbours.{domain}
-use Rattle.lattice.specs.Laws.Shape.{made}
+use Rattle.lattice.proofs.Laws.Neighbours.{domain}
+use Rattle.lattice.proofs.Laws.Shape.{made}
 use Rattle.clusters.specs.Update.{accepted}
 use Rattle.clusters.specs.Inside.Run.{given}
 use Rattle.clusters.specs.Inside.Whole.{call_by, lent_by, Ready}

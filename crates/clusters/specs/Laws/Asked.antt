@@ -6,7 +6,7 @@ use Rattle.domain.specs.declared.Refusal.{Refusal}
 use Rattle.domain.specs.declared.Refusal.TheVariants.{Shape, Length, Generator, Classes}
 use Rattle.domain.specs.declared.Verdict.{Verdict}
 use Rattle.domain.specs.declared.Verdict.TheVariants.{Accept, Refuse}
-use Rattle.domain.specs.Laws.{held}
+use Rattle.domain.proofs.Laws.{held}
 use Rattle.domain.specs.Refusals.{checks}
 use Rattle.generator.specs.declared.Xoshiro256StarStar.{Xoshiro256StarStar}
 use Rattle.generator.specs.Xoshiro.{dead}

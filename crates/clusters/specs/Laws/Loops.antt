@@ -5,7 +5,7 @@ use Rattle.std.proofs.Math.Arith.{digits_lt, digits_div, digits_mod}
 use Rattle.generator.specs.declared.Xoshiro256StarStar.{Xoshiro256StarStar}
 use Rattle.lattice.specs.Lattice.{sites, fwd}
 use Rattle.lattice.specs.Shape.{rests_for}
-use Rattle.lattice.specs.Laws.Shape.{rests-zero}
+use Rattle.lattice.proofs.Laws.Shape.{rests-zero}
 use Rattle.clusters.specs.Inside.Sway.{bond}
 use Rattle.clusters.specs.declared.Action.{Action}
 use Rattle.clusters.specs.Update.{bond_at, drawn}

@@ -4,7 +4,7 @@ use Rattle.std.proofs.Common.{ap, ◌∙◌}
 use Rattle.domain.specs.declared.Refusal.{Refusal}
 use Rattle.domain.specs.declared.Verdict.TheVariants.{Refuse}
 use Rattle.domain.specs.Refusals.{Reply, done, refused}
-use Rattle.domain.specs.Laws.{refusal_at, case_at}
+use Rattle.domain.proofs.Laws.{refusal_at, case_at}
 use Rattle.domain.specs.Promise as promise
 use Rattle.domain.specs.Promise.{Promised, one_answer}
 use Rattle.clusters.specs.declared.Answer.{Answer}

@@ -6,8 +6,8 @@ use mathlib.Core.List.{List, Memᴰ}
 use Rattle.std.proofs.Math.Nat.{mod-mod}
 use Rattle.std.proofs.Math.Decide.{ℕ_discrete}
 use Rattle.lattice.specs.Lattice.{sites, extent, stride, coord_at, coord, fwd, in_domain}
-use Rattle.lattice.specs.Laws.Neighbours.{domain, fwd-lt}
-use Rattle.lattice.specs.Laws.Coordinates.{coord-fwd, coord-fwd-other}
+use Rattle.lattice.proofs.Laws.Neighbours.{domain, fwd-lt}
+use Rattle.lattice.proofs.Laws.Coordinates.{coord-fwd, coord-fwd-other}
 use Rattle.graph.specs.Forest.{Bond}
 use Rattle.graph.specs.Walk.{Within}
 use Rattle.clusters.specs.Call.{Call, size, bonds}

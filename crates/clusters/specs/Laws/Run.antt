@@ -2,7 +2,7 @@
 use Rattle.std.specs.Prelude.{◌≡◌, Bool, true, false, cond, List, [], ◌∷◌, ◌++◌, ℕ, zero, suc, ◌+◌, ◌*◌, ◌<◌, ◌≤◌, length}
 use Rattle.std.proofs.Common.{sym, ap, ◌∙◌, subst, append-nil, add-one, arith, length-append}
 use Rattle.lattice.specs.Lattice.{sites, in_domain}
-use Rattle.lattice.specs.Laws.Neighbours.{domain, extent-pos}
+use Rattle.lattice.proofs.Laws.Neighbours.{domain, extent-pos}
 use Rattle.bonds.specs.declared.Activation.{Activation}
 use Rattle.bonds.specs.Visit.{visit_of}
 use Rattle.graph.specs.Forest.{Bond, Forest, forest, join}

@@ -5,7 +5,7 @@ use mathlib.Core.List.Memᴰ
 use Rattle.std.proofs.lemmas.List.{length-replicate, get_or-replicate}
 use Rattle.std.proofs.Math.IntN.{+ℤ_idl}
 use Rattle.lattice.specs.Lattice.{sites}
-use Rattle.lattice.specs.Laws.Neighbours.{domain}
+use Rattle.lattice.proofs.Laws.Neighbours.{domain}
 use Rattle.graph.specs.Forest.{up_from, fresh, forest, joins, filled}
 use Rattle.graph.specs.Winding.{offset, still, winding, winds}
 use Rattle.graph.specs.Laws.Lookup.{get_or-up_from}

@@ -5,8 +5,8 @@ use native.Mathlib.Omega.{arith}
 use borrow.Author.Tests.{not-true, not-false}
 use lib.ListN.{length}
 use Rattle.lattice.specs.Lattice.{sites, in_domain}
-use Rattle.lattice.specs.Laws.Neighbours.{domain}
-use Rattle.lattice.specs.Laws.Shape.{Made, made, sites-le, axes-le}
+use Rattle.lattice.proofs.Laws.Neighbours.{domain}
+use Rattle.lattice.proofs.Laws.Shape.{Made, made, sites-le, axes-le}
 use Rattle.clusters.specs.Inside.Asked.{lens_ok}
 use Rattle.clusters.specs.Laws.Asked.{bad-shape, bad-length, bad-generator, bad-classes, by_values, lengths, one-length, few-bonds}
 use borrow.Author.Rules.{rules}

@@ -3,7 +3,7 @@ use native.Mathlib.Omega.{arith}
 use borrow.Author.Rules.{rules}
 use Rattle.lattice.specs.Lattice.{sites}
 use Rattle.lattice.specs.Shape.{extents_of}
-use Rattle.lattice.specs.Laws.Shape.{sites-of, sites-le}
+use Rattle.lattice.proofs.Laws.Shape.{sites-of, sites-le}
 use Rattle.clusters.specs.declared.Action.TheVariants.{Observe}
 use Rattle.clusters.specs.Inside.Run.{given, lists}
 use Rattle.clusters.specs.Laws.Loops.{Walking, walking-none, site-at, walking_on, walked}

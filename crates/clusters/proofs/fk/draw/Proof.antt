@@ -1,6 +1,6 @@
 use mathlib.Core.Path.{◌∙◌}
 use native.Mathlib.Omega.{arith}
-use Rattle.lattice.specs.Laws.Neighbours.{domain}
+use Rattle.lattice.proofs.Laws.Neighbours.{domain}
 use Rattle.lattice.specs.Shape.{extents_of}
 use Rattle.clusters.specs.declared.Action.TheVariants.{Observe}
 use Rattle.clusters.specs.Inside.Run.{given}

@@ -1,6 +1,6 @@
 use native.Mathlib.Omega.{arith}
 use lib.Dec.{eqb}
-use Rattle.lattice.specs.Laws.Shape.{extent-of, axes-of}
+use Rattle.lattice.proofs.Laws.Shape.{extent-of, axes-of}
 use borrow.Author.Rules.{rules}
 use Rattle.clusters.proofs.fk.plane_of.Statement.{statement}
 use Rattle.clusters.proofs.fk.plane_of.Tie as tie

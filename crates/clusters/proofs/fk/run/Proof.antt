@@ -2,7 +2,7 @@ use Prim.Native.Nat.{ℕ, ◌+◌}
 use mathlib.Core.Path.{sym, ap, ◌∙◌}
 use lib.ListN.{replicate}
 use lib.IntN.{pos}
-use Rattle.lattice.specs.Laws.Neighbours.{domain}
+use Rattle.lattice.proofs.Laws.Neighbours.{domain}
 use Rattle.lattice.specs.Shape.{extents_of}
 use Rattle.clusters.specs.Inside.Whole.{call_by, lent_by}
 use Rattle.clusters.specs.Laws.Whole.{inside-roots, finished}

@@ -5,7 +5,7 @@ use borrow.Author.Rules.{rules}
 use lib.ListN.{length}
 use Rattle.lattice.specs.Lattice.{fwd}
 use Rattle.lattice.specs.Shape.{extents_of}
-use Rattle.lattice.specs.Laws.Shape.{axes-of, axes-le, sites-of, placed, ahead-fwd}
+use Rattle.lattice.proofs.Laws.Shape.{axes-of, axes-le, sites-of, placed, ahead-fwd}
 use Rattle.clusters.specs.Inside.Run.{given, lists}
 use Rattle.clusters.specs.Laws.Loops.{Going, going-none, visitable, going_on, bond-below, gone}
 use Rattle.clusters.proofs.fk.site_bonds.Statement.{statement}

@@ -1,7 +1,7 @@
 -- Laws of the tables: how a list is filled from the front, and what the entries are.
 --     fwd_at-row, bwd_at-row       the entry at i·m + d is the neighbour of site i in direction d
 --     fwd_table-at, bwd_table-at   the same of the tables
-use Rattle.std.specs.Prelude.{ℕ, zero, suc, ◌+◌, ◌*◌, ◌/◌, ◌%◌, ◌≤◌, ◌<◌, ◌≡◌, refl, List, [], length, get_or, set}
+use Rattle.std.specs.Prelude.{ℕ, zero, suc, ◌+◌, ◌*◌, ◌/◌, ◌%◌, ◌≤◌, ◌<◌, ◌≡◌, refl, List, length, get_or, set}
 use Rattle.std.proofs.Math.Path.{ap, ap₂}
 use Rattle.std.proofs.Common.{◌∙◌, sym, subst, arith, not-suc-le-zero, le_of_suc-le-suc, zero-add, add-zero, mul-le-mul_right, suc-mul, mod-eq_of_lt, ext_get_or, get_or-set_same, get_or-set_other}
 use Rattle.std.proofs.Math.Decide.{ℕ_discrete}

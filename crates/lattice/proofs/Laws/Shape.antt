@@ -1,12 +1,12 @@
 -- Laws of the shape that the code carries.
-use Rattle.std.specs.Prelude.{ℕ, zero, suc, ◌*◌, ◌%◌, ◌≤◌, ◌<◌, ◌≡◌, refl, true, length, take}
+use Rattle.std.specs.Prelude.{ℕ, zero, suc, ◌*◌, ◌%◌, ◌≤◌, ◌<◌, ◌≡◌, refl, true, length}
 use Rattle.std.proofs.Math.Path.{ap, ap₂}
 use Rattle.std.proofs.Common.{◌∙◌, sym, arith, mul-one, not-suc-le-zero, le_of_suc-le-suc}
 use mathlib.Core.List.{List, [], ◌∷◌}
 use Rattle.std.proofs.Math.Nat.{zero-mod}
 use Rattle.std.proofs.Math.ListN.{get_or}
 use Rattle.lattice.specs.Lattice.{sites, extent, stride, ahead, behind, fwd, bwd, in_domain}
-use Rattle.lattice.specs.Laws.Neighbours.{domain, fwd-lt, bwd-lt, sites-step, stride-step, stride-last, extent-pos, stride-pos, block-few}
+use Rattle.lattice.proofs.Laws.Neighbours.{domain, fwd-lt, bwd-lt, sites-step, stride-step, stride-last, extent-pos, stride-pos, block-few}
 use Rattle.lattice.specs.Shape.{four, shape_for, extents_of, Good, OnAxis, rests_for}
 use Rattle.lattice.specs.declared.Shape.{Shape}
 

@@ -5,7 +5,7 @@ use Rattle.std.proofs.Math.Decide.{dec_lt}
 use Rattle.std.proofs.Math.Nat.{mod-le, mod-add-mod, mod_self}
 use Rattle.lattice.specs.Lattice.{ahead, behind}
 use Rattle.lattice.specs.Shape.{OnAxis}
-use Rattle.lattice.specs.Laws.Radix as radix
+use Rattle.lattice.proofs.Laws.Radix as radix
 
 module _ {e s i rest : ℕ} (k : OnAxis e s i rest) where
   pub block-pos : 0 < e * s

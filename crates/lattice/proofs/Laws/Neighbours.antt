@@ -10,7 +10,7 @@ use Rattle.std.proofs.lemmas.Bool.{lt-leb}
 use Rattle.std.proofs.Math.ListN.{get_or-eq_default}
 use Rattle.std.proofs.Math.Decide.{dec_lt}
 use Rattle.lattice.specs.Lattice.{sites, extent, stride, ahead, behind, fwd, bwd, in_range, in_domain}
-use Rattle.lattice.specs.Laws.Radix as radix
+use Rattle.lattice.proofs.Laws.Radix as radix
 
 -- what the domain says
 pub record Domain (sh : List ℕ) : Type 0 where

@@ -10,8 +10,8 @@ use Rattle.std.proofs.Common.{ap₂, ◌∙◌, subst, arith, mul_assoc, one-mul
 use Rattle.std.proofs.Math.Decide.{dec_lt}
 use Rattle.std.proofs.Math.Nat.{mul_comm, mod-one, mod-mod_of_dvd, dvd-mul_left, div-div-eq-div-mul, mul-add-div_right, div-eq_of_lt, eq_of_mul-eq-mul_right}
 use Rattle.lattice.specs.Lattice.{sites, extent, stride, coord_at, put, ahead, behind, coord, fwd, bwd, in_range}
-use Rattle.lattice.specs.Laws.Neighbours.{range_cons, extent-pos, stride-pos, sites-pos, stride-step}
-use Rattle.lattice.specs.Laws.Radix as radix
+use Rattle.lattice.proofs.Laws.Neighbours.{range_cons, extent-pos, stride-pos, sites-pos, stride-step}
+use Rattle.lattice.proofs.Laws.Radix as radix
 
 module _ (sh : List ℕ) (ok : in_range sh ≡ true) (i d : ℕ) where
   pub coord-fwd : coord sh (fwd sh i d) d ≡ (coord sh i d + 1) % extent sh d

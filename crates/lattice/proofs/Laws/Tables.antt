@@ -9,7 +9,7 @@ use Rattle.domain.specs.declared.Verdict.TheVariants.{Accept, Refuse}
 use Rattle.domain.specs.declared.Refusal.TheVariants.{Shape, Length}
 use Rattle.domain.specs.Promise as promise
 use Rattle.domain.specs.Promise.{Promised}
-use Rattle.domain.specs.Laws.{one-verdict}
+use Rattle.domain.proofs.Laws.{one-verdict}
 use Rattle.lattice.specs.Lattice.{sites, in_domain, fwd_table, bwd_table}
 use Rattle.lattice.specs.Tables.{Given, given, Outcome, left, judge, settled, outcome}
 
