@@ -15,8 +15,8 @@ use Rattle.lattice.proofs.Laws.Neighbours.{domain}
 use Rattle.graph.specs.Forest.{Bond, root_of, total, largest, components}
 use Rattle.graph.specs.Winding.{along}
 use Rattle.graph.specs.Walk.{Walk, Among}
-use Rattle.graph.specs.Laws.Ints.{Multiple}
-use Rattle.graph.specs.Theorems as T
+use Rattle.graph.proofs.Laws.Ints.{Multiple}
+use Rattle.graph.proofs.Theorems as T
 use Rattle.clusters.specs.declared.Action.TheVariants.{Observe, Update}
 use Rattle.clusters.specs.declared.Answer.TheVariants.{Refused}
 use Rattle.clusters.specs.declared.Observation.{Observation}

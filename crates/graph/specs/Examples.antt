@@ -1,8 +1,8 @@
 -- Forests and windings of short lists of bonds, by computation. Each mistake that somebody may make in the definitions changes a value here.
 use Rattle.std.specs.Prelude.{◌≡◌, refl, true, false, List, [], ◌∷◌, ℕ, pos, negsuc}
 use Rattle.domain.specs.Table.{Row, ◌gives◌, computed, written}
-use Rattle.graph.specs.Forest.{Bond, Forest, forest, largest, sizes, components}
-use Rattle.graph.specs.Winding.{Winding, along, winding}
+use Rattle.graph.specs.Forest.{Bond, forest, largest, sizes, components}
+use Rattle.graph.specs.Winding.{along, winding}
 
 abbrev bond : ℕ → ℕ → ℕ → Bond
 bond a b d = record { x = a; y = b; axis = d }

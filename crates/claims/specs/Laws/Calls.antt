@@ -7,8 +7,8 @@ use Rattle.lattice.specs.Lattice.{extent, coord}
 use Rattle.graph.specs.Forest.{Forest, root_of, forest}
 use Rattle.graph.specs.Winding.{along}
 use Rattle.graph.specs.Walk.{Among, Within}
-use Rattle.graph.specs.Theorems as T
-use Rattle.graph.specs.Laws.Roots.{Sound, sound-forest}
+use Rattle.graph.proofs.Theorems as T
+use Rattle.graph.proofs.Laws.Roots.{Sound, sound-forest}
 use Rattle.clusters.specs.declared.Action.TheVariants.{Update}
 use Rattle.clusters.specs.Call.{Call, Lent, size, bonds}
 use Rattle.clusters.specs.Observation.{winding_of}

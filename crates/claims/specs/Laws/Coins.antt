@@ -7,7 +7,7 @@ use Rattle.std.proofs.lemmas.List.{length-replicate, get_or-replicate}
 use Rattle.std.proofs.Math.Dec.{T, T_not}
 use Rattle.generator.specs.declared.Xoshiro256StarStar.{Xoshiro256StarStar}
 use Rattle.generator.specs.Xoshiro.{step, heads_of}
-use Rattle.graph.specs.Laws.Lookup.{by-test}
+use Rattle.graph.proofs.Laws.Lookup.{by-test}
 use Rattle.clusters.specs.Update.{Coins, coins, turned}
 
 coin-small : (b : Bool) → cond b 1 0 < 2

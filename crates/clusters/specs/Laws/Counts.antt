@@ -5,7 +5,7 @@ use Rattle.std.proofs.Math.Decide.{ℕ_discrete}
 use Rattle.std.proofs.lemmas.List.{length-replicate, get_or-replicate}
 use Rattle.std.proofs.lemmas.Bool.{lt-leb}
 use Rattle.graph.specs.Forest.{count, filled, Forest, sizes}
-use Rattle.graph.specs.Laws.Counts.{count-bound, length-sizes, get_or-sizes}
+use Rattle.graph.proofs.Laws.Counts.{count-bound, length-sizes, get_or-sizes}
 use Rattle.clusters.specs.Sizes.{at_least}
 use Rattle.clusters.specs.Inside.Bare.{bare, sizes_of}
 

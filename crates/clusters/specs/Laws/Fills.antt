@@ -3,7 +3,7 @@ use Rattle.std.specs.Prelude.{ℕ, ◌+◌, ◌<◌, ◌≤◌, ◌≡◌, refl,
 use Rattle.std.proofs.Common.{zero-add, arith, sym, ap, ◌∙◌, length-set, ext_get_or, get_or-set_same, get_or-set_other, below_none, below_more}
 use Rattle.std.proofs.lemmas.List.{length-replicate, get_or-replicate}
 use Rattle.graph.specs.Forest.{up_from}
-use Rattle.graph.specs.Laws.Lookup.{length-up_from, get_or-up_from}
+use Rattle.graph.proofs.Laws.Lookup.{length-up_from, get_or-up_from}
 
 -- the first i places are filled; d is what a place past the end reads
 pub record Filled {A : Type 0} (d : A) (v : ℕ → A) (l₀ l : List A) (i : ℕ) : Type 0 where

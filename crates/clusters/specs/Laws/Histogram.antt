@@ -3,7 +3,7 @@ use Rattle.std.specs.Prelude.{ℕ, zero, suc, ◌+◌, ◌<◌, ◌≤◌, ◌�
 use Rattle.std.proofs.Common.{zero-le, zero-add, add-zero, add-one, arith, sym, ap, ◌∙◌, length-set, drop_of_length-le, ext_get_or, drop-cons, get_or-set_same, get_or-set_other, eq-eqb, ne_eqb}
 use Rattle.std.proofs.Math.Decide.{ℕ_discrete}
 use Rattle.graph.specs.Forest.{count}
-use Rattle.graph.specs.Laws.Counts.{count-bound}
+use Rattle.graph.proofs.Laws.Counts.{count-bound}
 use Rattle.clusters.specs.Sizes.{of_size, raised}
 use Rattle.clusters.specs.Inside.Bare.{noted}
 

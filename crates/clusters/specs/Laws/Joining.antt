@@ -3,8 +3,8 @@ use Rattle.std.specs.Prelude.{ℕ, ◌+◌, ◌^◌, ◌<◌, ◌≤◌, ◌≡�
 use Rattle.std.proofs.Common.{arith, sym, ◌∙◌, pow_mono}
 use Rattle.std.proofs.Math.Decide.{ℕ_discrete, dec_lt}
 use Rattle.graph.specs.Forest.{Forest, relabel, count}
-use Rattle.graph.specs.Laws.Lookup.{length-relabel, relabel-hit, relabel-miss}
-use Rattle.graph.specs.Laws.Counts.{count-bound, count-won, count-other}
+use Rattle.graph.proofs.Laws.Lookup.{length-relabel, relabel-hit, relabel-miss}
+use Rattle.graph.proofs.Laws.Counts.{count-bound, count-won, count-other}
 use Rattle.clusters.specs.Inside.Rep.{Grown}
 use Rattle.domain.specs.Cases.{by-dec}
 

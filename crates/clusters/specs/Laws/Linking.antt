@@ -5,7 +5,7 @@ use Rattle.std.proofs.Common.{add-one, arith, sym, ap, ◌∙◌, inl, inr, ⊎_
 use Rattle.std.proofs.Math.Decide.{ℕ_discrete}
 use borrow.Author.Tests.{eq-eqb, ne_eqb, lt-ltb, le-ltb}
 use Rattle.graph.specs.Forest.{Forest, root_of, rank_of, relabel, count, absorb, unite}
-use Rattle.graph.specs.Laws.Lookup.{length-relabel}
+use Rattle.graph.proofs.Laws.Lookup.{length-relabel}
 use Rattle.clusters.specs.Inside.Rep.{Site, Grown, Rep}
 use Rattle.domain.specs.Cases.{by-dec}
 use Rattle.clusters.specs.Laws.Forest.{ended}

@@ -3,8 +3,8 @@ use Rattle.std.specs.Prelude.{◌≡◌, ◌≢◌, List, ℕ, ◌≤◌, ◌<�
 use Rattle.std.proofs.Common.{sym, ap, ◌∙◌, subst, arith, length-set, get_or-set_same, get_or-set_other}
 use Rattle.std.proofs.Math.Decide.{ℕ_discrete}
 use Rattle.graph.specs.Forest.{Forest, root_of, rank_of, up_from, fresh, absorb}
-use Rattle.graph.specs.Laws.Lookup.{length-up_from, get_or-up_from}
-use Rattle.graph.specs.Laws.Roots.{Sound, Apart, fresh-root, hit, miss, stays, rank-other, rank-won}
+use Rattle.graph.proofs.Laws.Lookup.{length-up_from, get_or-up_from}
+use Rattle.graph.proofs.Laws.Roots.{Sound, Apart, fresh-root, hit, miss, stays, rank-other, rank-won}
 
 -- A site i and its parent p, in the forest f: a root is its own parent, and up any other link the rank rises and the root stays.
 pub record Hung (n : ℕ) (f : Forest) (i p : ℕ) : Type 0 where

@@ -7,8 +7,8 @@ use Rattle.bonds.specs.declared.Activation.{Activation}
 use Rattle.bonds.specs.Visit.{visit_of}
 use Rattle.graph.specs.Forest.{Bond, Forest, forest, join}
 use Rattle.graph.specs.Walk.{Within}
-use Rattle.graph.specs.Laws.Roots.{sound-forest}
-use Rattle.graph.specs.Laws.Same.{forest-next}
+use Rattle.graph.proofs.Laws.Roots.{sound-forest}
+use Rattle.graph.proofs.Laws.Same.{forest-next}
 use Rattle.clusters.specs.Inside.Rep.{Rep, Joined}
 use Rattle.clusters.specs.declared.winding.Marks.{Marks}
 use Rattle.clusters.specs.Inside.Sway.{next, bond}

@@ -6,8 +6,8 @@ use Rattle.std.proofs.Math.Logic.{inl}
 use Rattle.std.proofs.Math.ListN.{get_or, length-replicate}
 use Rattle.std.proofs.lemmas.List.{get_or-replicate}
 use Rattle.graph.specs.Forest.{fresh, up_from}
-use Rattle.graph.specs.Laws.Lookup.{length-up_from, get_or-up_from}
-use Rattle.graph.specs.Laws.Counts.{count-pos}
+use Rattle.graph.proofs.Laws.Lookup.{length-up_from, get_or-up_from}
+use Rattle.graph.proofs.Laws.Counts.{count-pos}
 use Rattle.clusters.specs.Inside.Rep.{Grown, Rep}
 
 module _ (n : ℕ) where

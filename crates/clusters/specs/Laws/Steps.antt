@@ -8,7 +8,7 @@ use Rattle.lattice.specs.Lattice.{sites}
 use Rattle.lattice.proofs.Laws.Neighbours.{domain}
 use Rattle.graph.specs.Forest.{up_from, fresh, forest, joins, filled}
 use Rattle.graph.specs.Winding.{offset, still, winding, winds}
-use Rattle.graph.specs.Laws.Lookup.{get_or-up_from}
+use Rattle.graph.proofs.Laws.Lookup.{get_or-up_from}
 use Rattle.clusters.specs.Inside.Rep.{Flattened}
 use Rattle.clusters.specs.Laws.Starting.{fresh-rep}
 use Rattle.clusters.specs.Laws.Links.{hangs-fresh}

@@ -14,12 +14,12 @@ use Rattle.ints.specs.Ints.{abs-add, abs-sub, view, diff-add, diff-neg, diff-eq,
 use Rattle.graph.specs.Forest.{Bond, Forest, root_of, rank_of, absorb, unite, join, forest}
 use Rattle.graph.specs.Winding.{Winding, root, rank, offset, along, attach, close, around, wind, winding}
 use Rattle.graph.specs.Walk.{Within}
-use Rattle.graph.specs.Laws.Same.{winding-trees, winding-next, forest-next}
-use Rattle.graph.specs.Laws.Roots.{Apart, sound-forest}
-use Rattle.graph.specs.Laws.Trees.{Good, offset-hit, offset-miss, zero-stays}
-use Rattle.graph.specs.Laws.Bounds.{short-along, spread-all, offset-lt}
-use Rattle.graph.specs.Laws.Bounds as bounds
-use Rattle.graph.specs.Laws.Sizes.{rank-le}
+use Rattle.graph.proofs.Laws.Same.{winding-trees, winding-next, forest-next}
+use Rattle.graph.proofs.Laws.Roots.{Apart, sound-forest}
+use Rattle.graph.proofs.Laws.Trees.{Good, offset-hit, offset-miss, zero-stays}
+use Rattle.graph.proofs.Laws.Bounds.{short-along, spread-all, offset-lt}
+use Rattle.graph.proofs.Laws.Bounds as bounds
+use Rattle.graph.proofs.Laws.Sizes.{rank-le}
 use Rattle.clusters.specs.declared.winding.Found.{Found}
 use Rattle.clusters.specs.declared.winding.Marks.{Marks}
 use Rattle.clusters.specs.declared.winding.Way.{Way}

@@ -15,8 +15,8 @@ use Rattle.lattice.specs.Lattice.{sites, in_domain}
 use Rattle.lattice.proofs.Laws.Neighbours.{domain}
 use Rattle.bonds.specs.Visit.{all_spins}
 use Rattle.graph.specs.Forest.{Forest, forest, sizes, filled}
-use Rattle.graph.specs.Laws.Counts.{length-sizes}
-use Rattle.graph.specs.Laws.Roots.{sound-forest}
+use Rattle.graph.proofs.Laws.Counts.{length-sizes}
+use Rattle.graph.proofs.Laws.Roots.{sound-forest}
 use Rattle.clusters.specs.declared.winding.Marks.{Marks}
 use Rattle.clusters.specs.declared.Answer.TheVariants.{Done, Refused}
 use Rattle.clusters.specs.declared.Observation.{Observation}

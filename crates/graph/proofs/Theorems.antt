@@ -6,12 +6,12 @@ use mathlib.Core.List.{List, Memᴰ}
 use Rattle.graph.specs.Forest.{Bond, root_of, rank_of, forest, count, sizes, total, components, largest}
 use Rattle.graph.specs.Winding.{offset, along, around, winding}
 use Rattle.graph.specs.Walk.{Walk, Within, Among}
-use Rattle.graph.specs.Laws.Ints.{Multiple}
-use Rattle.graph.specs.Laws.Same as Same
-use Rattle.graph.specs.Laws.Joined as Joined
-use Rattle.graph.specs.Laws.Torn as Torn
-use Rattle.graph.specs.Laws.Bounds as Bounds
-use Rattle.graph.specs.Laws.Sizes as Sizes
+use Rattle.graph.proofs.Laws.Ints.{Multiple}
+use Rattle.graph.proofs.Laws.Same as Same
+use Rattle.graph.proofs.Laws.Joined as Joined
+use Rattle.graph.proofs.Laws.Torn as Torn
+use Rattle.graph.proofs.Laws.Bounds as Bounds
+use Rattle.graph.proofs.Laws.Sizes as Sizes
 
 -- 1. Two sites have one root just where a walk over active bonds leads from one to the other.
 pub joined : (step : Bond → ℤ) (n : ℕ) (bonds : List Bond) → Within n bonds → (a b : ℕ) → a < n → b < n

@@ -1,5 +1,5 @@
 -- The theorems of the clusters and of the winding flag.
-use Rattle.std.specs.Prelude.{◌≡◌, refl, ◌↔◌, ◌≢◌, ◌⊎◌, Bool, true, false, not, List, [], ℕ, ◌≤◌, ◌<◌, length, ℤ, pos, ◌+ℤ◌, ◌-ℤ◌, neg_ℤ}
+use Rattle.std.specs.Prelude.{◌≡◌, refl, ◌↔◌, ◌≢◌, ◌⊎◌, Bool, true, false, not, List, ℕ, ◌≤◌, ◌<◌, length, ℤ, pos, ◌+ℤ◌, ◌-ℤ◌, neg_ℤ}
 use Rattle.std.proofs.Math.Path.{sym}
 use Rattle.std.proofs.Common.{ap, ◌∙◌, subst, inl, inr}
 use native.Mathlib.Omega.{arith}
@@ -7,14 +7,14 @@ use Rattle.std.proofs.Math.IntN.{+ℤ_idr, +ℤ_assoc}
 use Rattle.graph.specs.Forest.{Bond, Forest, root_of, forest, count, sizes, total, largest, components}
 use Rattle.graph.specs.Winding.{root, offset, winding}
 use Rattle.graph.specs.Walk.{Walk, stay, ahead, back, Within, Among}
-use Rattle.graph.specs.Laws.Ints.{step_back, add-cancel}
-use Rattle.graph.specs.Laws.Kept.{reached, even}
-use Rattle.graph.specs.Laws.Walks.{onward, reverse, widen}
-use Rattle.graph.specs.Laws.Same.{winding-trees}
-use Rattle.graph.specs.Laws.Roots.{sound-forest}
-use Rattle.graph.specs.Laws.Counts.{count-le, count-some, count-pos, largest-le, le-largest}
-use Rattle.graph.specs.Laws.Lookup.{eqb-not, true-test}
-use Rattle.graph.specs.Laws.Tally.{fills, components-tally, Into, OneToOne, tally-into, sizes-sum}
+use Rattle.graph.proofs.Laws.Ints.{step_back, add-cancel}
+use Rattle.graph.proofs.Laws.Kept.{reached, even}
+use Rattle.graph.proofs.Laws.Walks.{onward, reverse, widen}
+use Rattle.graph.proofs.Laws.Same.{winding-trees}
+use Rattle.graph.proofs.Laws.Roots.{sound-forest}
+use Rattle.graph.proofs.Laws.Counts.{count-le, count-some, count-pos, largest-le, le-largest}
+use Rattle.graph.proofs.Laws.Lookup.{eqb-not, true-test}
+use Rattle.graph.proofs.Laws.Tally.{fills, components-tally, Into, OneToOne, tally-into, sizes-sum}
 
 module _ (step : Bond → ℤ) (e n : ℕ) (bonds : List Bond) (within : Within n bonds) where
   walk-root : {a b : ℕ} {z : ℤ} → Walk step bonds a b z → root (winding step e n bonds) a ≡ root (winding step e n bonds) b

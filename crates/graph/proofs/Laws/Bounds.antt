@@ -10,12 +10,12 @@ use Rattle.graph.specs.Forest.{Bond, count}
 use Rattle.graph.specs.Winding.{Winding, root, offset, still, attach, close, around, along, wind, winding}
 use Rattle.graph.specs.Walk.{Within}
 use Rattle.ints.specs.Ints.{abs-add, abs_neg}
-use Rattle.graph.specs.Laws.Ints.{minus-self, minus-swap, split-far, split-near}
-use Rattle.graph.specs.Laws.Lookup.{by-test}
-use Rattle.graph.specs.Laws.Counts.{count-pos, count-bound}
-use Rattle.graph.specs.Laws.Trees.{Good, root-hit, root-miss, offset-hit, offset-miss, still-offset, good-still, Joins, far, near, wind-cases, joins-apart, winds-keep}
-use Rattle.graph.specs.Laws.Roots.{Apart}
-use Rattle.graph.specs.Laws.Sizes.{size_at, size-won, size-grows}
+use Rattle.graph.proofs.Laws.Ints.{minus-self, minus-swap, split-far, split-near}
+use Rattle.graph.proofs.Laws.Lookup.{by-test}
+use Rattle.graph.proofs.Laws.Counts.{count-pos, count-bound}
+use Rattle.graph.proofs.Laws.Trees.{Good, root-hit, root-miss, offset-hit, offset-miss, still-offset, good-still, Joins, far, near, wind-cases, joins-apart, winds-keep}
+use Rattle.graph.proofs.Laws.Roots.{Apart}
+use Rattle.graph.proofs.Laws.Sizes.{size_at, size-won, size-grows}
 
 -- the size of the component of the site i
 abbrev pub size : Winding → ℕ → ℕ

@@ -11,10 +11,10 @@ use Rattle.graph.specs.Forest.{Bond}
 use Rattle.graph.specs.Winding.{Winding, root, offset, still, attach, close, around, wind, winds, winding}
 use Rattle.graph.specs.Walk.{Walk, stay, ahead, Within, Among}
 use Rattle.ints.specs.Ints.{abs-zero}
-use Rattle.graph.specs.Laws.Ints.{shift-both, gap-far, gap-near, gap-zero}
-use Rattle.graph.specs.Laws.Lookup.{eqb_yes}
-use Rattle.graph.specs.Laws.Trees.{Good, root-hit, root-miss, offset-hit, offset-miss, still-root, still-offset, good-still, Joins, far, near, wind-cases, good-wind, winds-keep}
-use Rattle.graph.specs.Laws.Walks.{onward, reverse}
+use Rattle.graph.proofs.Laws.Ints.{shift-both, gap-far, gap-near, gap-zero}
+use Rattle.graph.proofs.Laws.Lookup.{eqb_yes}
+use Rattle.graph.proofs.Laws.Trees.{Good, root-hit, root-miss, offset-hit, offset-miss, still-root, still-offset, good-still, Joins, far, near, wind-cases, good-wind, winds-keep}
+use Rattle.graph.proofs.Laws.Walks.{onward, reverse}
 
 -- ---- tests
 or_cases : (a b : Bool) → a || b ≡ true → (a ≡ true) ⊎ (b ≡ true)
@@ -155,6 +155,7 @@ module _ (step : Bond → ℤ) (e n : ℕ) (bonds : List Bond) where
 
   even-all : Within n bonds → (cs : List Bond) → Among cs bonds → (s : Winding) → Good n s → (c : Bond) → Memᴰ c cs → Even c (winds step e s cs)
   unfolding winds
+  even-all within [] among s good c m = elim m [ ]
   even-all within (b ∷ cs) among s good c (mathlib.Core.List.Memᴰ.head k) =
       let m : Memᴰ c bonds = among c (mathlib.Core.List.Memᴰ.head k) in
       let h = within c m in

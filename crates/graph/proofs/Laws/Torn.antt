@@ -7,10 +7,10 @@ use mathlib.Core.List.{List, Memᴰ}
 use Rattle.graph.specs.Forest.{Bond}
 use Rattle.graph.specs.Winding.{Winding, root, still, attach, close, around, wind, winding, along}
 use Rattle.graph.specs.Walk.{Walk, stay, ahead, back, Within}
-use Rattle.graph.specs.Laws.Ints.{Multiple, multiple-zero, multiple-rest, multiple-add, multiple-neg, multiple-mod, sum-stay, sum-ahead, sum_back, sum-closed}
-use Rattle.graph.specs.Laws.Lookup.{eqb_yes}
-use Rattle.graph.specs.Laws.Trees.{Good, good-still, wind-cases, winds-keep}
-use Rattle.graph.specs.Laws.Kept.{Reached, reached-still, reached-wind, bridge}
+use Rattle.graph.proofs.Laws.Ints.{Multiple, multiple-zero, multiple-rest, multiple-add, multiple-neg, multiple-mod, sum-stay, sum-ahead, sum_back, sum-closed}
+use Rattle.graph.proofs.Laws.Lookup.{eqb_yes}
+use Rattle.graph.proofs.Laws.Trees.{Good, good-still, wind-cases, winds-keep}
+use Rattle.graph.proofs.Laws.Kept.{Reached, reached-still, reached-wind, bridge}
 
 -- the bond c goes by its step, modulo the extent e, in the coordinate
 abbrev pub Goes : ℕ → (Bond → ℤ) → (ℕ → ℤ) → Bond → Type 0

@@ -3,8 +3,8 @@ use Rattle.std.specs.Prelude.{◌≡◌, refl, ◌≢◌, Bool, true, false, con
 use Rattle.std.proofs.Common.{sym, ap, ◌∙◌, zero-le, arith}
 use Rattle.std.proofs.Math.Decide.{ℕ_discrete}
 use Rattle.graph.specs.Forest.{Forest, up_from, count, sizes, filled, components, total}
-use Rattle.graph.specs.Laws.Lookup.{eqb_yes, eqb-not}
-use Rattle.graph.specs.Laws.Counts.{one-if, none-if}
+use Rattle.graph.proofs.Laws.Lookup.{eqb_yes, eqb-not}
+use Rattle.graph.proofs.Laws.Counts.{one-if, none-if}
 
 -- of the n numbers from a on
 unfoldable pub tally : (ℕ → Bool) → ℕ → ℕ → ℕ

@@ -4,7 +4,7 @@ use Rattle.std.proofs.Common.{sym, ap, ◌∙◌, subst, inl, inr, zero-le, suc-
 use Rattle.std.proofs.Math.Decide.{ℕ_discrete}
 use Rattle.std.proofs.lemmas.List.{length-map}
 use Rattle.graph.specs.Forest.{Forest, up_from, relabel, count, sizes, greatest, largest}
-use Rattle.graph.specs.Laws.Lookup.{eqb_yes, eqb-not, length-up_from, get_or-up_from}
+use Rattle.graph.proofs.Laws.Lookup.{eqb_yes, eqb-not, length-up_from, get_or-up_from}
 
 pub one-if : (a r : ℕ) → a ≡ r → ◌≡◌ {A = ℕ} (cond (eqb a r) 1 0) 1
 one-if a r e = ap {B = ℕ} (λ (b : Bool). cond b 1 0) (eqb_yes a r e)

@@ -4,7 +4,7 @@ use Rattle.std.specs.Prelude.{List, ℕ, ℤ, ◌+ℤ◌, neg_ℤ}
 use Rattle.std.proofs.Math.IntN.{+ℤ_idr, +ℤ_assoc}
 use Rattle.graph.specs.Forest.{Bond}
 use Rattle.graph.specs.Walk.{Walk, stay, ahead, back, Among}
-use Rattle.graph.specs.Laws.Ints.{back-ahead, back-back}
+use Rattle.graph.proofs.Laws.Ints.{back-ahead, back-back}
 
 module _ {step : Bond → ℤ} {bonds : List Bond} where
   pub onward : {a b c : ℕ} {z y : ℤ} → Walk step bonds a b z → Walk step bonds b c y → Walk step bonds a c (z +ℤ y)

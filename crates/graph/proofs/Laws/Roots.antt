@@ -12,7 +12,7 @@ use Rattle.std.proofs.lemmas.List.{length-replicate}
 use Rattle.std.proofs.Math.Seq.{get_or-set_same, get_or-set_other}
 use Rattle.graph.specs.Forest.{Bond, Forest, root_of, rank_of, fresh, absorb, unite, join, joins, forest}
 use Rattle.graph.specs.Walk.{Within}
-use Rattle.graph.specs.Laws.Lookup.{by-test, length-up_from, get_or-up_from, length-relabel, relabel-hit, relabel-miss}
+use Rattle.graph.proofs.Laws.Lookup.{by-test, length-up_from, get_or-up_from, length-relabel, relabel-hit, relabel-miss}
 
 -- Lists of n sites, in which a root is a site and is its own root.
 pub record Sound (n : ℕ) (f : Forest) : Type 0 where
