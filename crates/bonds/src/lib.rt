@@ -23,8 +23,8 @@ pub enum BondState {
 
 // The interaction is the product of the two spins and the coupling; a bond pulls where it is above zero.
 fn bond_state(a: i8, b: i8, coupling: f32) -> BondState
-    requires t { T (is_spin a) }
-    requires t_2 { T (is_spin b) }
+    requires a_is_spin { T (is_spin a) }
+    requires b_is_spin { T (is_spin b) }
     ensures { result ≡ bond_of a b coupling }
 {
     let interaction = ((a * b) as f32) * coupling;
@@ -219,7 +219,7 @@ pub fn visit_bond(
     bond: usize,
     generator: Xoshiro256StarStar,
 ) -> Activation
-    requires t { T (all_spins spins.now) }
+    requires spins_are { T (all_spins spins.now) }
     requires site_in_bounds { site < length spins.now }
     requires next_in_bounds { next < length spins.now }
     requires bond_in_bounds { bond < length couplings.now }
