@@ -1,6 +1,7 @@
 pub mod Asked
 pub mod Bare
 pub mod Join
+pub mod Links
 pub mod Placed
 pub mod Rep
 pub mod Run

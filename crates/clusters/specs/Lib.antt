@@ -6,4 +6,3 @@ pub mod Update
 pub mod Inside
 pub mod Samples
 pub mod Examples
-pub mod Laws

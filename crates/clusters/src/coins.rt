@@ -24,7 +24,7 @@ fn toss_at(
     generator: Xoshiro256StarStar,
 ) -> Xoshiro256StarStar
     requires i_in_bounds { i < length roots.now }
-    requires i_in_bounds_2 { get_or roots.now i 0 < length decisions.old }
+    requires root_in_bounds { get_or roots.now i 0 < length decisions.old }
     ensures { coins_of decisions.new result ≡ toss (get_or roots.now i 0) (coins_of decisions.old generator) }
 {
     let r = wide(roots[i]);
@@ -41,7 +41,7 @@ fn toss_at(
 // One spin negated where it lies.
 fn negate_at(spins: &mut [i8], site: usize)
     requires site_in_bounds { site < length spins.old }
-    requires t { T (is_spin (get_or spins.old site (pos 0))) }
+    requires spin_at_site { T (is_spin (get_or spins.old site (pos 0))) }
     ensures { spins.new ≡ set spins.old site (neg_ℤ (get_or spins.old site (pos 0))) }
 {
     let s = spins[site];
@@ -51,9 +51,9 @@ fn negate_at(spins: &mut [i8], site: usize)
 // A site's spin, negated where its component has heads.
 fn turn_at(roots: &[u32], decisions: &[u8], spins: &mut [i8], i: usize)
     requires i_in_bounds { i < length roots.now }
-    requires i_in_bounds_2 { i < length spins.old }
-    requires i_in_bounds_3 { get_or roots.now i 0 < length decisions.now }
-    requires t { T (is_spin (get_or spins.old i (pos 0))) }
+    requires i_in_spins { i < length spins.old }
+    requires root_in_bounds { get_or roots.now i 0 < length decisions.now }
+    requires spin_at_i { T (is_spin (get_or spins.old i (pos 0))) }
     ensures { spins.new ≡ set spins.old i (turned_at decisions.now (get_or roots.now i 0) (get_or spins.old i (pos 0))) }
 {
     let r = wide(roots[i]);
@@ -71,8 +71,8 @@ pub(crate) fn flip(
 ) -> Xoshiro256StarStar
     requires decisions_len { length decisions.old ≡ length roots.now }
     requires roots_len { length roots.now ≡ length spins.old }
-    requires by_index { (i : ℕ) → i < length roots.now → get_or roots.now i 0 < length roots.now }
-    requires t { T (all_spins spins.old) }
+    requires roots_in_bounds { (i : ℕ) → i < length roots.now → get_or roots.now i 0 < length roots.now }
+    requires spins_are { T (all_spins spins.old) }
     ensures { record { decisions = decisions.exit.now; spins = spins.new; generator = result } ≡ ended Update (bare roots.now) spins.old generator }
 {
     // 2: no component has its coin yet

@@ -288,8 +288,8 @@ fn act(
 ) -> Xoshiro256StarStar
     requires decisions_len { length decisions.old ≡ length roots.now }
     requires roots_len { length roots.now ≡ length spins.old }
-    requires by_index { (i : ℕ) → i < length roots.now → get_or roots.now i 0 < length roots.now }
-    requires t { T (all_spins spins.old) }
+    requires roots_in_bounds { (i : ℕ) → i < length roots.now → get_or roots.now i 0 < length roots.now }
+    requires spins_are { T (all_spins spins.old) }
     ensures { record { decisions = decisions.exit.now; spins = spins.new; generator = result } ≡ ended action (held roots.now decisions.entry.now) spins.old generator }
 {
     match action {

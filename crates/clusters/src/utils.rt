@@ -27,7 +27,7 @@ fn up(parent: &[u32], x: u32) -> u32
 fn halve(parent: &mut [u32], rank: &[u8], x: u32) -> u32
     requires valid { Valid parent.old rank.now }
     requires x_in_bounds { x < length parent.old }
-    requires fact { get_or parent.old x 0 ≡ x → ⊥ }
+    requires not_root { get_or parent.old x 0 ≡ x → ⊥ }
     ensures { Climbed parent.old rank.now parent.new x result }
 {
     let p = up(parent, x);
@@ -54,7 +54,7 @@ fn link(parent: &mut [u32], rank: &mut [u8], x: u32, y: u32)
     requires valid { Valid parent.old rank.old }
     requires x_in_bounds { (x < length parent.old) × (get_or parent.old x 0 ≡ x) }
     requires y_in_bounds { (y < length parent.old) × (get_or parent.old y 0 ≡ y) }
-    requires fact { x ≡ y → ⊥ }
+    requires apart { x ≡ y → ⊥ }
     ensures { Linked parent.old rank.old parent.new rank.new x y }
 {
     let kx = rank[x as usize];
@@ -154,7 +154,7 @@ pub(crate) fn clear_words(words: &mut [u32])
 fn tally(roots: &[u32], counts: &mut [u32])
     requires counts_value { counts.old ≡ replicate (length roots.now) 0 }
     requires roots_len_bound { length roots.now < 2 ^ 32 }
-    requires by_index { (i : ℕ) → i < length roots.now → get_or roots.now i 0 < length roots.now }
+    requires roots_in_bounds { (i : ℕ) → i < length roots.now → get_or roots.now i 0 < length roots.now }
     ensures { counts.new ≡ sizes_of roots.now }
 {
     let mut i: usize = 0;
@@ -189,7 +189,7 @@ pub(crate) fn at_least(counts: &[u32], t: usize) -> usize
 pub(crate) fn count_roots(roots: &[u32], counts: &mut [u32])
     requires counts_len { length counts.old ≡ length roots.now }
     requires roots_len_bound { length roots.now < 2 ^ 32 }
-    requires by_index { (i : ℕ) → i < length roots.now → get_or roots.now i 0 < length roots.now }
+    requires roots_in_bounds { (i : ℕ) → i < length roots.now → get_or roots.now i 0 < length roots.now }
     ensures { counts.new ≡ sizes_of roots.now }
 {
     clear_words(counts);
@@ -227,8 +227,8 @@ fn note(hist: &mut [u64], c: u32)
 // Each entry rises by the number of components of its size.
 pub(crate) fn histogram(counts: &[u32], hist: &mut [u64])
     requires counts_len_bound { length counts.now < 2 ^ 32 }
-    requires by_index { (i : ℕ) → i < length counts.now → get_or counts.now i 0 < length hist.old }
-    requires by_index_2 { (s : ℕ) → s < length hist.old → get_or hist.old s 0 ≤ 2 ^ 63 }
+    requires counts_in_bounds { (i : ℕ) → i < length counts.now → get_or counts.now i 0 < length hist.old }
+    requires entries_low { (s : ℕ) → s < length hist.old → get_or hist.old s 0 ≤ 2 ^ 63 }
     ensures { hist.new ≡ raised 0 counts.now hist.old }
 {
     let mut i: usize = 0;

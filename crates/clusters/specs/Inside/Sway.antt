@@ -8,7 +8,7 @@ use Rattle.clusters.specs.declared.winding.Closing.TheVariants.{Joined, Closed}
 use Rattle.clusters.specs.declared.winding.Found.{Found}
 use Rattle.clusters.specs.declared.winding.Marks.{Marks}
 use Rattle.clusters.specs.declared.winding.Way.{Way}
-use Rattle.clusters.specs.Laws.Links.{Hangs}
+use Rattle.clusters.specs.Inside.Links.{Hangs}
 
 -- n sites, the extents of the two axes, and the active bonds so far
 pub record Scene : Type 0 where

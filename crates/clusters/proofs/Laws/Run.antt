@@ -1,0 +1,135 @@
+-- One bond more.
+use Rattle.std.specs.Prelude.{◌≡◌, Bool, true, false, cond, List, [], ◌∷◌, ◌++◌, ℕ, zero, suc, ◌+◌, ◌*◌, ◌<◌, ◌≤◌, length}
+use Rattle.std.proofs.Common.{sym, ap, ◌∙◌, subst, append-nil, add-one, arith, length-append}
+use Rattle.lattice.specs.Lattice.{sites, in_domain}
+use Rattle.lattice.proofs.Laws.Neighbours.{domain, extent-pos}
+use Rattle.bonds.specs.declared.Activation.{Activation}
+use Rattle.bonds.specs.Visit.{visit_of}
+use Rattle.graph.specs.Forest.{Bond, Forest, forest, join}
+use Rattle.graph.specs.Walk.{Within}
+use Rattle.graph.proofs.Laws.Roots.{sound-forest}
+use Rattle.graph.proofs.Laws.Same.{forest-next}
+use Rattle.clusters.specs.Inside.Rep.{Rep, Joined}
+use Rattle.clusters.specs.declared.winding.Marks.{Marks}
+use Rattle.clusters.specs.Inside.Sway.{next, bond}
+use Rattle.clusters.specs.Call.{Call}
+use Rattle.clusters.specs.Update.{bond_at, visit_at, drawn}
+use Rattle.clusters.proofs.Laws.Places.{place}
+use Rattle.clusters.proofs.Laws.Drawn.{drawn-sound}
+use Rattle.clusters.specs.declared.fk.Plane.{Plane}
+use Rattle.clusters.specs.declared.fk.Pass.{Pass}
+use Rattle.clusters.specs.Inside.Run.{Lists, Given, Origin, call_of, scene, plane_of, Joint, Turned, Stands, Visit}
+
+-- the forest's side of a bond
+pub forest-joined : (n : ℕ) (bs : List Bond) (c : Bond) {fs ks fs' ks' : List ℕ} → Rep fs ks (forest n bs) → Joined fs ks fs' ks' c.x c.y
+    → Rep fs' ks' (forest n (bs ++ c ∷ []))
+unfolding join
+forest-joined n bs c {fs' = fs'} {ks' = ks'} r j = subst (λ (f : Forest). Rep fs' ks' f) (sym (forest-next n bs c)) (j (forest n bs) r)
+
+-- drawn, one bond further
+module _ (c : Call) (b : ℕ) where
+  pub generator-next : (drawn c (b + 1)).generator ≡ (visit_at c b (drawn c b).generator).state
+  unfolding drawn
+  generator-next = rw (add-one b)
+
+  active-next : (drawn c (b + 1)).active ≡ (drawn c b).active ++ cond (visit_at c b (drawn c b).generator).active (bond_at c.extents b ∷ []) []
+  unfolding drawn
+  active-next = rw (add-one b)
+
+  pub active-more : (visit_at c b (drawn c b).generator).active ≡ true → (drawn c (b + 1)).active ≡ (drawn c b).active ++ bond_at c.extents b ∷ []
+  active-more e = active-next ∙ ap (λ (t : Bool). (drawn c b).active ++ cond t (bond_at c.extents b ∷ []) []) e
+
+  pub active-same : (visit_at c b (drawn c b).generator).active ≡ false → (drawn c (b + 1)).active ≡ (drawn c b).active
+  active-same e = active-next ∙ ap (λ (t : Bool). (drawn c b).active ++ cond t (bond_at c.extents b ∷ []) []) e ∙ append-nil (drawn c b).active
+
+-- no more active bonds than visited ones
+one-le : (t : Bool) (k : Bond) → length (cond t (k ∷ []) []) ≤ 1
+one-le true k = omega arith
+one-le false k = omega arith
+
+pub active-le : (c : Call) (b : ℕ) → length (drawn c b).active ≤ b
+unfolding drawn
+active-le c zero = omega arith
+active-le c (suc b) =
+    let t = (visit_at c b (drawn c b).generator).active in
+    omega (
+      arith,
+      length-append (drawn c b).active (cond t (bond_at c.extents b ∷ []) []),
+      one-le t (bond_at c.extents b),
+      active-le c b,
+    )
+
+-- the sites of the bonds drawn are among the sites
+pub within-drawn : (c : Call) (b : ℕ) → in_domain c.extents ≡ true → b ≤ sites c.extents * length c.extents → Within (sites c.extents) (drawn c b).active
+within-drawn c b ok le k m =
+    let s = drawn-sound c b k m in
+    let h = s.1 in
+    subst (λ (q : Bond). (q.x < sites c.extents) × (q.y < sites c.extents)) (sym s.3) (place c.extents ok s.0 (omega arith))
+
+pub roots-sized : (n : ℕ) (bs : List Bond) {fs ks : List ℕ} → Within n bs → Rep fs ks (forest n bs) → length fs ≡ n
+roots-sized n bs w r = r.links ∙ (sound-forest n bs w).roots-n
+
+-- where the winding is kept, there are as many parents as roots
+pub one_size : (n : ℕ) (pl : Plane) (bs : List Bond) {l : Lists} {f : Marks} → Rep l.roots l.decisions (forest n bs) → Turned (scene n pl bs) l f
+    → length l.parents ≡ length l.roots
+one_size n pl bs r t = t.swung.hangs.parents-n ∙ sym (roots-sized n bs t.swung.within r)
+
+-- the bond that is next
+module _ (g : Given) (o : Origin) {l : Lists} {pl : Plane} {p : Pass} {site to axis b : ℕ} (v : Visit g o l pl p site to axis b) where
+  pub site-in : site < sites o.extents
+  site-in = subst (λ (k : Bond). k.x < sites o.extents) v.place (place o.extents v.fit.domain b v.below).0
+
+  pub to_in : to < sites o.extents
+  to_in = subst (λ (k : Bond). k.y < sites o.extents) v.place (place o.extents v.fit.domain b v.below).1
+
+  pub roots-n : length l.roots ≡ sites o.extents
+  roots-n = let h = v.below in roots-sized (sites o.extents) (drawn (call_of g o) b).active (within-drawn (call_of g o) b v.fit.domain (omega arith)) v.here.joint.rep
+
+  pub few-sites : sites o.extents ≤ 16777216
+  few-sites = (domain o.extents v.fit.domain).few
+
+  pub plane-pos : (0 < pl.ex) × (0 < pl.ey)
+  plane-pos =
+      subst (λ (q : Plane). (0 < q.ex) × (0 < q.ey)) (sym v.plane)
+      (extent-pos o.extents 0 (domain o.extents v.fit.domain).range, extent-pos o.extents 1 (domain o.extents v.fit.domain).range)
+
+  -- the same on the code's plane, and back
+  pub on-plane : Joint pl.two (scene (sites o.extents) pl (drawn (call_of g o) b).active) l p.marks
+  on-plane = subst (λ (q : Plane). Joint q.two (scene (sites o.extents) q (drawn (call_of g o) b).active) l p.marks) (sym v.plane) v.here.joint
+
+  pub off-plane : {l' : Lists} {m : Marks} → Joint pl.two (next (scene (sites o.extents) pl (drawn (call_of g o) b).active) (bond site to axis)) l' m
+      → Joint (plane_of o.extents).two (next (scene (sites o.extents) (plane_of o.extents) (drawn (call_of g o) b).active) (bond site to axis)) l' m
+  off-plane {l'} {m} j =
+      subst (λ (q : Plane). Joint q.two (next (scene (sites o.extents) q (drawn (call_of g o) b).active) (bond site to axis)) l' m) v.plane j
+
+  -- what visiting it comes to
+  visit-is : (a : Activation) → a ≡ visit_of g.spins g.couplings g.weights g.thresholds site to b p.state → a ≡ visit_at (call_of g o) b (drawn (call_of g o) b).generator
+  visit-is a e =
+      e ∙ ap (visit_of g.spins g.couplings g.weights g.thresholds site to b) v.here.state
+      ∙ ap (λ (k : Bond). visit_of g.spins g.couplings g.weights g.thresholds k.x k.y b (drawn (call_of g o) b).generator) (sym v.place)
+
+  module _ (a : Activation) (e : a ≡ visit_of g.spins g.couplings g.weights g.thresholds site to b p.state) where
+    -- it is not active
+    pub passed : a.active ≡ false → Stands (call_of g o) (b + 1) l (record { state = a.state; active = p.active; marks = p.marks })
+    passed t =
+        let u = visit-is a e in
+        let s = active-same (call_of g o) b (sym (ap (λ (x : Activation). x.active) u) ∙ t) in
+        record {
+          state = ap (λ (x : Activation). x.state) u ∙ sym (generator-next (call_of g o) b);
+          active = v.here.active ∙ ap length (sym s);
+          joint = subst (λ (bs : List Bond). Joint (plane_of o.extents).two (scene (sites o.extents) (plane_of o.extents) bs) l p.marks) (sym s) v.here.joint;
+        }
+
+    -- it is
+    pub taken : a.active ≡ true → {l' : Lists} (m : Marks)
+        → Joint (plane_of o.extents).two (next (scene (sites o.extents) (plane_of o.extents) (drawn (call_of g o) b).active) (bond site to axis)) l' m
+        → Stands (call_of g o) (b + 1) l' (record { state = a.state; active = p.active + 1; marks = m })
+    taken t {l'} m j =
+        let u = visit-is a e in
+        let s : (drawn (call_of g o) (b + 1)).active ≡ (drawn (call_of g o) b).active ++ bond site to axis ∷ [] =
+        active-more (call_of g o) b (sym (ap (λ (x : Activation). x.active) u) ∙ t) ∙ ap (λ (k : Bond). (drawn (call_of g o) b).active ++ k ∷ []) v.place in
+        record {
+          state = ap (λ (x : Activation). x.state) u ∙ sym (generator-next (call_of g o) b);
+          active = ap (λ (k : ℕ). k + 1) v.here.active ∙ sym (ap length s ∙ length-append (drawn (call_of g o) b).active (bond site to axis ∷ []));
+          joint = subst (λ (bs : List Bond). Joint (plane_of o.extents).two (scene (sites o.extents) (plane_of o.extents) bs) l' m) (sym s) j;
+        }

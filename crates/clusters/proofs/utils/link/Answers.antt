@@ -1,0 +1,15 @@
+use Rattle.std.proofs.Common.{arith, refl}
+use Rattle.clusters.proofs.Laws.Linking.{rank-fits, pair, join-low, join-high, join-even}
+use Rattle.clusters.proofs.utils.link.Goals as goal
+
+pub returns-then-kx-ky : goal.returns-then-kx-ky
+returns-then-kx-ky c f r = join-low c.args.x c.args.y r (pair c.args.x c.args.y r c.requires.x_in_bounds c.requires.y_in_bounds c.requires.apart) c.if-kx-ky.true
+
+pub overflow_add-rank : goal.overflow_add-rank
+overflow_add-rank c = omega (arith, rank-fits c.args.x c.requires.valid.1 c.requires.x_in_bounds.0 c.requires.x_in_bounds.1 c.well_formed.0.0)
+
+pub returns-then-kx-ky-2 : goal.returns-then-kx-ky-2
+returns-then-kx-ky-2 c f r = join-even c.args.x c.args.y r (pair c.args.x c.args.y r c.requires.x_in_bounds c.requires.y_in_bounds c.requires.apart) _ refl c.if-kx-ky-2.true
+
+pub returns-else-kx-ky-2 : goal.returns-else-kx-ky-2
+returns-else-kx-ky-2 c f r = join-high c.args.x c.args.y r (pair c.args.x c.args.y r c.requires.x_in_bounds c.requires.y_in_bounds c.requires.apart) (omega arith)
