@@ -23,9 +23,9 @@ use Rattle.clusters.specs.declared.Observation.{Observation}
 use Rattle.clusters.specs.Call.{Call, Lent, size, bonds, judge}
 use Rattle.clusters.specs.Observation.{observation, two_axes}
 use Rattle.clusters.specs.Update.{Seen, Outcome, left, bond_at, spin_at, drawn, is_active, active, ended, accepted, outcome}
-use Rattle.clusters.specs.Laws.Places.{one-step}
-use Rattle.clusters.specs.Laws.Drawn.{drawn-sound}
-use Rattle.clusters.specs.Laws.Outcome as O
+use Rattle.clusters.proofs.Laws.Places.{one-step}
+use Rattle.clusters.proofs.Laws.Drawn.{drawn-sound}
+use Rattle.clusters.proofs.Laws.Outcome as O
 use Rattle.claims.specs.Terms.{Ran, Joined, Wound, flag_of, root_in, decision_in, spin_in, how_many, raise}
 use Rattle.claims.specs.Laws.Accepted.{in-domain, spins-full, ok, leaves, observes, same-generator}
 use Rattle.claims.specs.Laws.Calls as A

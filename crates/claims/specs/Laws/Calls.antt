@@ -15,7 +15,7 @@ use Rattle.clusters.specs.Observation.{winding_of}
 use Rattle.clusters.specs.Update.{Seen, Outcome, Coins, drawn, active, coins, turned, ended, accepted}
 use Rattle.claims.specs.Terms.{Ran, Wound, root_in, raise}
 use Rattle.claims.specs.Laws.Accepted.{in-domain, one-length, ok, leaves}
-use Rattle.clusters.specs.Laws.Places.{within, one-step}
+use Rattle.clusters.proofs.Laws.Places.{within, one-step}
 
 -- the forest of a call
 abbrev pub trees : Call → Forest
