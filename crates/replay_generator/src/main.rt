@@ -2,20 +2,20 @@
 #![tactic(auto)]
 
 use generator::Xoshiro256StarStar;
+use std::io;
 
-fn main() {
+fn main(rt: HostRuntime) -> io::Result<()> {
     let mut state = Xoshiro256StarStar {
         s0: 1,
         s1: 2,
         s2: 3,
         s3: 4,
     };
-    let mut i: usize = 0;
-    while i < 10 {
+    for _ in 0..10 {
         let out = state.next();
-        io::print_decimal(1, out.value);
-        io::write_all(1, b"\n");
+        let value = out.value;
+        println!(rt; "{value}")?;
         state = out.state;
-        i += 1;
     }
+    Ok(())
 }

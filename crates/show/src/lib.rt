@@ -2,106 +2,91 @@
 // No contract can say what is written, so the functions that write are proved safe and no more.
 #![tactic(auto)]
 
-ghost use Rattle.std.specs.Prelude.{◌≡◌};
-
 use domain::Refusal;
 use generator::Xoshiro256StarStar;
+use std::io;
 
-pub fn label(text: &[u8]) {
-    io::write_all(1, text);
+pub fn label(rt: &impl Print, text: &[u8]) -> io::Result<()> {
+    rt.write_all(text)
 }
 
-pub fn number(n: u64) {
-    io::print_decimal(1, n);
+pub fn number(rt: &impl Print, n: u64) -> io::Result<()> {
+    rt.print(n)
 }
 
-pub fn signed(n: i64) {
+pub fn signed(rt: &impl Print, n: i64) -> io::Result<()> {
     if n < 0 {
-        label(b"-");
+        label(rt, b"-")?;
     }
-    number(ints::magnitude(n));
+    number(rt, ints::magnitude(n))
 }
 
 // A spin as its sign, and any other value as its number.
-fn spin(s: i8) {
+fn spin(rt: &impl Print, s: i8) -> io::Result<()> {
     if s == 1 {
-        label(b"+");
+        label(rt, b"+")
     } else if s == -1 {
-        label(b"-");
+        label(rt, b"-")
     } else {
-        signed(s as i64);
+        signed(rt, s as i64)
     }
 }
 
-pub fn spins(row: &[i8]) {
-    let mut i: usize = 0;
-    while i < row.len() {
-        spin(row[i]);
-        i += 1;
+pub fn spins(rt: &impl Print, row: &[i8]) -> io::Result<()> {
+    for s in row {
+        spin(rt, *s)?;
     }
-    label(b"\n");
+    label(rt, b"\n")
 }
 
 // A space before each entry of a row but the first.
-fn gap(i: usize) {
-    if 0 < i {
-        label(b" ");
+fn gap(rt: &impl Print, i: usize) -> io::Result<()> {
+    if 0 < i { label(rt, b" ") } else { Ok(()) }
+}
+
+pub fn bytes(rt: &impl Print, row: &[u8]) -> io::Result<()> {
+    for (i, b) in row.iter().enumerate() {
+        gap(rt, i)?;
+        number(rt, *b as u64)?;
     }
+    label(rt, b"\n")
 }
 
-fn of_byte(b: u8) -> u64 {
-    b as u64
-}
-
-fn of_word(w: u32) -> u64 {
-    w as u64
-}
-
-pub fn bytes(row: &[u8]) {
-    let mut i: usize = 0;
-    while i < row.len() {
-        gap(i);
-        number(of_byte(row[i]));
-        i += 1;
+pub fn words(rt: &impl Print, row: &[u32]) -> io::Result<()> {
+    for (i, w) in row.iter().enumerate() {
+        gap(rt, i)?;
+        number(rt, *w as u64)?;
     }
-    label(b"\n");
+    label(rt, b"\n")
 }
 
-pub fn words(row: &[u32]) {
-    let mut i: usize = 0;
-    while i < row.len() {
-        gap(i);
-        number(of_word(row[i]));
-        i += 1;
+pub fn longs(rt: &impl Print, row: &[u64]) -> io::Result<()> {
+    for (i, n) in row.iter().enumerate() {
+        gap(rt, i)?;
+        number(rt, *n)?;
     }
-    label(b"\n");
+    label(rt, b"\n")
 }
 
-pub fn longs(row: &[u64]) {
-    let mut i: usize = 0;
-    while i < row.len() {
-        gap(i);
-        number(row[i]);
-        i += 1;
+pub fn wides(rt: &impl Print, row: &[i64]) -> io::Result<()> {
+    for (i, n) in row.iter().enumerate() {
+        gap(rt, i)?;
+        signed(rt, *n)?;
     }
-    label(b"\n");
+    label(rt, b"\n")
 }
 
-pub fn wides(row: &[i64]) {
-    let mut i: usize = 0;
-    while i < row.len() {
-        gap(i);
-        signed(row[i]);
-        i += 1;
-    }
-    label(b"\n");
+pub fn state(rt: &impl Print, generator: Xoshiro256StarStar) -> io::Result<()> {
+    longs(
+        rt,
+        &[generator.s0, generator.s1, generator.s2, generator.s3],
+    )
 }
 
-pub fn state(generator: Xoshiro256StarStar) {
-    longs(&[generator.s0, generator.s1, generator.s2, generator.s3]);
-}
-
-pub fn refusal(reason: Refusal) {
-    label(b"refused ");
-    longs(&[domain::number_of(reason), domain::place_of(reason) as u64]);
+pub fn refusal(rt: &impl Print, reason: Refusal) -> io::Result<()> {
+    label(rt, b"refused ")?;
+    longs(
+        rt,
+        &[domain::number_of(reason), domain::place_of(reason) as u64],
+    )
 }
