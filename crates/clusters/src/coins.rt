@@ -73,7 +73,7 @@ pub(crate) fn flip(
     requires roots_len { length roots.now ≡ length spins.old }
     requires roots_in_bounds { (i : ℕ) → i < length roots.now → get_or roots.now i 0 < length roots.now }
     requires spins_are { T (all_spins spins.old) }
-    ensures { record { decisions = decisions.exit.now; spins = spins.new; generator = result } ≡ ended Update (bare roots.now) spins.old generator }
+    ensures { record { decisions = decisions.new; spins = spins.new; generator = result } ≡ ended Update (bare roots.now) spins.old generator }
 {
     // 2: no component has its coin yet
     fill_bytes(decisions, 2);

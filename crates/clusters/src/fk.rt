@@ -290,7 +290,7 @@ fn act(
     requires roots_len { length roots.now ≡ length spins.old }
     requires roots_in_bounds { (i : ℕ) → i < length roots.now → get_or roots.now i 0 < length roots.now }
     requires spins_are { T (all_spins spins.old) }
-    ensures { record { decisions = decisions.exit.now; spins = spins.new; generator = result } ≡ ended action (held roots.now decisions.entry.now) spins.old generator }
+    ensures { record { decisions = decisions.new; spins = spins.new; generator = result } ≡ ended action (held roots.now decisions.old) spins.old generator }
 {
     match action {
         Action::Observe => generator,
