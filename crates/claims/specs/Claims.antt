@@ -14,8 +14,7 @@ use Rattle.lattice.specs.Lattice.{extent, coord}
 use Rattle.lattice.proofs.Laws.Neighbours.{domain}
 use Rattle.graph.specs.Forest.{Bond, root_of, total, largest, components}
 use Rattle.graph.specs.Winding.{along}
-use Rattle.graph.specs.Walk.{Walk, Among}
-use Rattle.graph.proofs.Laws.Ints.{Multiple}
+use Rattle.graph.specs.Walk.{Walk, Among, Multiple}
 use Rattle.graph.proofs.Theorems as T
 use Rattle.clusters.specs.declared.Action.TheVariants.{Observe, Update}
 use Rattle.clusters.specs.declared.Answer.TheVariants.{Refused}

@@ -1,4 +1,4 @@
--- What a reader must believe: Call, Sizes, Observation, Update. What the private functions' contracts say: Inside. The proofs' laws: Laws.
+-- What a reader must believe: Call, Sizes, Observation, Update. What the private functions' contracts say: Inside. The proofs' laws are in proofs/Laws.
 pub mod Call
 pub mod Sizes
 pub mod Observation

@@ -7,16 +7,12 @@ use Rattle.domain.specs.declared.Refusal.TheVariants.{Shape, Length, Generator, 
 use Rattle.domain.specs.declared.Verdict.{Verdict}
 use Rattle.domain.specs.declared.Verdict.TheVariants.{Accept, Refuse}
 use Rattle.domain.specs.Promise.{one_answer}
-use Rattle.domain.specs.Refusals.{number_of, place_of, Reply, done, refused, reply_of, need, every, need_each, checks}
+use Rattle.domain.specs.Refusals.{Passed, Held, number_of, place_of, Reply, done, refused, reply_of, need, every, need_each, checks}
 
 pub unlike : (r : Refusal) → Refuse r ≡ Accept → ⊥
 unlike r e = let z : ◌≡◌ {A = ℕ} 0 1 = cc in omega arith
 
 -- where the verdict is to accept, each check passed
-abbrev pub Passed : List Verdict → Type 0
-Passed [] = Unit
-Passed (v ∷ vs) = (v ≡ Accept) × Passed vs
-
 pub passed : (vs : List Verdict) → checks vs ≡ Accept → Passed vs
 unfolding checks
 passed [] e = tt
@@ -24,10 +20,6 @@ passed (Accept ∷ vs) e = (refl, passed vs e)
 passed (Refuse r ∷ vs) e = absurd (unlike r e)
 
 -- and where every test holds, each does
-abbrev pub Held : List Bool → Type 0
-Held [] = Unit
-Held (b ∷ bs) = (b ≡ true) × Held bs
-
 pub held : (bs : List Bool) → every bs ≡ true → Held bs
 unfolding every
 held [] e = tt

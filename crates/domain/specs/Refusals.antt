@@ -1,5 +1,5 @@
 -- Document 01, "Refusal numbers, in order of checking": the number and the place of each refusal, and how the checks of a call give one verdict.
-use Rattle.std.specs.Prelude.{ℕ, suc, Bool, true, cond, ◌&&◌, List, [], ◌∷◌}
+use Rattle.std.specs.Prelude.{◌≡◌, ℕ, suc, Bool, true, cond, ◌&&◌, List, [], ◌∷◌}
 use Rattle.domain.specs.declared.Refusal.{Refusal}
 use Rattle.domain.specs.declared.Refusal.TheVariants.{Shape, Length, Generator, Classes, Spin, Coupling, Histogram, Row, UnitCoupling, Malformed, Oversize}
 use Rattle.domain.specs.declared.Verdict.{Verdict}
@@ -68,3 +68,13 @@ unfoldable pub checks : List Verdict → Verdict
 checks [] = Accept
 checks (Accept ∷ vs) = checks vs
 checks (Refuse r ∷ vs) = Refuse r
+
+-- each check of a list passes
+abbrev pub Passed : List Verdict → Type 0
+Passed [] = Unit
+Passed (v ∷ vs) = (v ≡ Accept) × Passed vs
+
+-- each test of a list holds
+abbrev pub Held : List Bool → Type 0
+Held [] = Unit
+Held (b ∷ bs) = (b ≡ true) × Held bs

@@ -5,8 +5,7 @@ use Rattle.std.specs.Prelude.{◌≡◌, ◌↔◌, ◌≢◌, true, false, cond
 use mathlib.Core.List.{List, Memᴰ}
 use Rattle.graph.specs.Forest.{Bond, root_of, rank_of, forest, count, sizes, total, components, largest}
 use Rattle.graph.specs.Winding.{offset, along, around, winding}
-use Rattle.graph.specs.Walk.{Walk, Within, Among}
-use Rattle.graph.proofs.Laws.Ints.{Multiple}
+use Rattle.graph.specs.Walk.{Walk, Within, Among, Multiple}
 use Rattle.graph.proofs.Laws.Same as Same
 use Rattle.graph.proofs.Laws.Joined as Joined
 use Rattle.graph.proofs.Laws.Torn as Torn

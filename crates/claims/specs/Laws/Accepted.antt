@@ -6,8 +6,8 @@ use Rattle.std.proofs.Math.Bool.{and-eq-true_iff}
 use borrow.Author.Tests.{eqb-true}
 use Rattle.domain.specs.declared.Verdict.{Verdict}
 use Rattle.domain.specs.declared.Verdict.TheVariants.{Accept, Refuse}
-use Rattle.domain.specs.Refusals.{done, refused}
-use Rattle.domain.proofs.Laws.{Passed, passed, Held, held, needed}
+use Rattle.domain.specs.Refusals.{done, refused, Passed, Held}
+use Rattle.domain.proofs.Laws.{passed, held, needed}
 use Rattle.lattice.specs.Lattice.{in_domain}
 use Rattle.bonds.specs.Classes.{classes_ok}
 use Rattle.clusters.specs.Call.{Call, Lent, size, bonds, lengths_ok, asked, judge}

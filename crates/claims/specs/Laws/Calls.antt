@@ -4,11 +4,11 @@ use Rattle.std.proofs.Common.{sym, ◌∙◌, arith}
 use Rattle.std.proofs.Math.Path.{ap}
 use Rattle.std.proofs.Math.Bool.{true, false}
 use Rattle.lattice.specs.Lattice.{extent, coord}
-use Rattle.graph.specs.Forest.{Forest, root_of, forest}
+use Rattle.graph.specs.Forest.{Forest, root_of, forest, Sound}
 use Rattle.graph.specs.Winding.{along}
 use Rattle.graph.specs.Walk.{Among, Within}
 use Rattle.graph.proofs.Theorems as T
-use Rattle.graph.proofs.Laws.Roots.{Sound, sound-forest}
+use Rattle.graph.proofs.Laws.Roots.{sound-forest}
 use Rattle.clusters.specs.declared.Action.TheVariants.{Update}
 use Rattle.clusters.specs.Call.{Call, Lent, size, bonds}
 use Rattle.clusters.specs.Observation.{winding_of}

@@ -2,9 +2,9 @@
 use Rattle.std.specs.Prelude.{◌≡◌, ◌≢◌, List, ℕ, ◌≤◌, ◌<◌, length, get_or, set}
 use Rattle.std.proofs.Common.{sym, ap, ◌∙◌, subst, arith, length-set, get_or-set_same, get_or-set_other}
 use Rattle.std.proofs.Math.Decide.{ℕ_discrete}
-use Rattle.graph.specs.Forest.{Forest, root_of, rank_of, up_from, fresh, absorb}
+use Rattle.graph.specs.Forest.{Forest, root_of, rank_of, up_from, fresh, absorb, Sound}
 use Rattle.graph.proofs.Laws.Lookup.{length-up_from, get_or-up_from}
-use Rattle.graph.proofs.Laws.Roots.{Sound, Apart, fresh-root, hit, miss, stays, rank-other, rank-won}
+use Rattle.graph.proofs.Laws.Roots.{Apart, fresh-root, hit, miss, stays, rank-other, rank-won}
 use Rattle.clusters.specs.Inside.Links.{Hung, Hangs}
 
 -- ---- one entry set

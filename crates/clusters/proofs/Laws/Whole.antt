@@ -8,8 +8,8 @@ use Rattle.domain.specs.declared.Refusal.{Refusal}
 use Rattle.domain.specs.declared.Refusal.TheVariants.{Spin, Histogram}
 use Rattle.domain.specs.declared.Verdict.TheVariants.{Accept, Refuse}
 use Rattle.domain.specs.Numbers.{is_spin, is_entry}
-use Rattle.domain.specs.Refusals.{need_each, checks}
-use Rattle.domain.proofs.Laws.{unlike, Passed, passed, needed, needed-each}
+use Rattle.domain.specs.Refusals.{need_each, checks, Passed}
+use Rattle.domain.proofs.Laws.{unlike, passed, needed, needed-each}
 use Rattle.generator.specs.declared.Xoshiro256StarStar.{Xoshiro256StarStar}
 use Rattle.lattice.specs.Lattice.{sites, in_domain}
 use Rattle.bonds.specs.Visit.{all_spins}

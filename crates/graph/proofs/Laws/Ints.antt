@@ -4,6 +4,7 @@ use Rattle.std.proofs.Common.{sym, ap, ◌∙◌, zero-mul, div-add-mod', arith}
 use Rattle.std.proofs.Math.Nat.{mul-mod_left}
 use Rattle.std.proofs.Math.IntN.{+ℤ_idl, +ℤ_idr, +ℤ_assoc, +ℤ_comm, +ℤ_invr, neg_ℤ-+ℤ, neg_ℤ-neg_ℤ, +ℤ-neg_ℤ_cancel, -ℤ-+ℤ_cancel}
 use Rattle.ints.specs.Ints.{diff, up, down, view, diff-add, diff-neg, diff-eq, diff-inj, diff-zero, abs_neg}
+use Rattle.graph.specs.Walk.{Multiple}
 
 -- ---- the identities of the winding theory, each by the recipe
 pub shift-both : (d a s : ℤ) → d +ℤ (a +ℤ s) ≡ (d +ℤ a) +ℤ s
@@ -62,9 +63,6 @@ pub split-near : (x s y i j : ℤ) → neg_ℤ (x +ℤ s -ℤ y) +ℤ i -ℤ j �
 split-near x s y i j = rw (view x, view s, view y, view i, view j) (simp (diff-add, diff-neg) (diff-eq _ _ _ _ (omega arith)))
 
 -- ---- multiples
-abbrev pub Multiple : ℕ → ℤ → Type 0
-Multiple e z = (k : ℤ) × (z ≡ k *ℤ pos e)
-
 times : (k : ℤ) (e : ℕ) → k *ℤ pos e ≡ diff (up k * e) (down k * e)
 unfolding up down diff
 times (pos m) e = sym (+ℤ_idr (pos (m * e))) ∙ ap (λ (x : ℕ). pos (m * e) -ℤ pos x) (sym (zero-mul e))

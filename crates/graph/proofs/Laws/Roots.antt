@@ -10,16 +10,9 @@ use Rattle.std.proofs.Math.Dec.{T, T_not, eqb_refl}
 use Rattle.std.proofs.Math.ListN.{length, get_or, length-set}
 use Rattle.std.proofs.lemmas.List.{length-replicate}
 use Rattle.std.proofs.Math.Seq.{get_or-set_same, get_or-set_other}
-use Rattle.graph.specs.Forest.{Bond, Forest, root_of, rank_of, fresh, absorb, unite, join, joins, forest}
+use Rattle.graph.specs.Forest.{Bond, Forest, Sound, root_of, rank_of, fresh, absorb, unite, join, joins, forest}
 use Rattle.graph.specs.Walk.{Within}
 use Rattle.graph.proofs.Laws.Lookup.{by-test, length-up_from, get_or-up_from, length-relabel, relabel-hit, relabel-miss}
-
--- Lists of n sites, in which a root is a site and is its own root.
-pub record Sound (n : ℕ) (f : Forest) : Type 0 where
-  pub roots-n : length f.roots ≡ n
-  pub ranks-n : length f.ranks ≡ n
-  pub root-lt : (i : ℕ) → i < n → root_of f i < n
-  pub root-root : (i : ℕ) → i < n → root_of f (root_of f i) ≡ root_of f i
 
 -- w and l are two different roots.
 pub record Apart (n : ℕ) (f : Forest) (w l : ℕ) : Type 0 where

@@ -7,11 +7,11 @@ use Prim.Native.Nat.{ℕ, suc, ◌+◌, ◌^◌, ◌≤◌, ◌<◌}
 use Rattle.std.proofs.Math.Decide.{ℕ_discrete, dec_le}
 use Rattle.std.proofs.lemmas.List.{get_or-replicate}
 use Rattle.std.proofs.Math.Pow.{pow-lt}
-use Rattle.graph.specs.Forest.{Bond, Forest, root_of, rank_of, fresh, relabel, absorb, forest, count}
+use Rattle.graph.specs.Forest.{Bond, Forest, root_of, rank_of, fresh, relabel, absorb, forest, count, Sound}
 use Rattle.graph.specs.Walk.{Within}
 use Rattle.graph.proofs.Laws.Lookup.{by-test}
 use Rattle.graph.proofs.Laws.Counts.{count-pos, count-bound, count-won, count-other}
-use Rattle.graph.proofs.Laws.Roots.{Sound, Apart, sound-fresh, hit, miss, stays, forest-keeps, sound-forest}
+use Rattle.graph.proofs.Laws.Roots.{Apart, sound-fresh, hit, miss, stays, forest-keeps, sound-forest}
 
 -- the size of the component of the site i
 abbrev pub size_at : Forest → ℕ → ℕ

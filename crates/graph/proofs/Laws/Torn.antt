@@ -6,8 +6,8 @@ use Rattle.std.proofs.Math.Bool.{not}
 use mathlib.Core.List.{List, Memᴰ}
 use Rattle.graph.specs.Forest.{Bond}
 use Rattle.graph.specs.Winding.{Winding, root, still, attach, close, around, wind, winding, along}
-use Rattle.graph.specs.Walk.{Walk, stay, ahead, back, Within}
-use Rattle.graph.proofs.Laws.Ints.{Multiple, multiple-zero, multiple-rest, multiple-add, multiple-neg, multiple-mod, sum-stay, sum-ahead, sum_back, sum-closed}
+use Rattle.graph.specs.Walk.{Walk, stay, ahead, back, Within, Multiple}
+use Rattle.graph.proofs.Laws.Ints.{multiple-zero, multiple-rest, multiple-add, multiple-neg, multiple-mod, sum-stay, sum-ahead, sum_back, sum-closed}
 use Rattle.graph.proofs.Laws.Lookup.{eqb_yes}
 use Rattle.graph.proofs.Laws.Trees.{Good, good-still, wind-cases, winds-keep}
 use Rattle.graph.proofs.Laws.Kept.{Reached, reached-still, reached-wind, bridge}

@@ -6,11 +6,11 @@ use mathlib.Core.List.{List, [], ◌∷◌, Memᴰ}
 use Prim.Native.Nat.{ℕ, ◌≤◌, ◌<◌}
 use Rattle.std.proofs.Math.Dec.{eqb_refl}
 use Rattle.std.proofs.lemmas.List.{length-replicate, get_or-replicate}
-use Rattle.graph.specs.Forest.{Bond}
+use Rattle.graph.specs.Forest.{Bond, Sound}
 use Rattle.graph.specs.Winding.{Winding, root, rank, offset, still, attach, close, around, wind, winds}
 use Rattle.graph.specs.Walk.{Within, Among}
 use Rattle.graph.proofs.Laws.Lookup.{by-test, length_shift, shift-hit, shift-miss}
-use Rattle.graph.proofs.Laws.Roots.{Sound, Apart, fresh-root, sound-fresh, hit, miss, after, sound-absorb, Unites, first, second, unites-apart}
+use Rattle.graph.proofs.Laws.Roots.{Apart, fresh-root, sound-fresh, hit, miss, after, sound-absorb, Unites, first, second, unites-apart}
 
 -- A sound forest with an offset for each of the n sites, 0 at a root.
 pub record Good (n : ℕ) (s : Winding) : Type 0 where
