@@ -1,4 +1,4 @@
--- `bond::bond_state` meets its contract. The product of two spins fits an i8; the interaction is the coupling or its negation, and its sign picks the state.
+-- `bonds::bond_state` meets its contract. The product of two spins fits an i8; the interaction is the coupling or its negation, and its sign picks the state.
 use Rattle.std.specs.Float.Ieee.{of_bits}
 use Rattle.bonds.proofs.Signs.{interaction-is, pull-is, idle-is}
 use Rattle.bonds.proofs.bond_state.Goals as goal

@@ -1,4 +1,4 @@
--- `classes::find` meets its contract. The invariant: what is looked up in the whole lists is what is looked up from i on.
+-- `bonds::find` meets its contract.
 use Rattle.std.proofs.Common.{arith, ◌∙◌}
 use Rattle.bonds.proofs.Laws.{lookup-passed}
 use Rattle.bonds.proofs.find.Goals as goal

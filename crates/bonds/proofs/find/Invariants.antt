@@ -1,4 +1,4 @@
--- `classes::find` meets its contract. The invariant: what is looked up in the whole lists is what is looked up from i on.
+-- The invariant: what is looked up in the whole lists is what is looked up from i on.
 use Rattle.std.proofs.Common.{◌≡◌, ◌≤◌, ◌-◌, length, drop}
 use Rattle.bonds.specs.Classes.{lookup}
 use Rattle.bonds.proofs.find.Given as goal

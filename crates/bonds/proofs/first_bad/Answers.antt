@@ -1,4 +1,4 @@
--- `bonds::first_bad` meets its contract. The invariants: the first bad bond is the first from this site on, and from this direction of it on.
+-- `bonds::first_bad` meets its contract.
 use Rattle.std.proofs.Common.{arith, sym, ap, add-mul, one-mul, ◌≡◌, ◌∙◌, ℕ, ◌+◌, ◌*◌, ◌<◌, not, length, add_assoc, le_of_eq}
 use Rattle.std.proofs.Math.Arith.{digits_lt, lt_of_le-ne}
 use Rattle.std.specs.Float.{nan}
@@ -15,8 +15,7 @@ row-end site axes d h = ap (λ (n : ℕ). site * axes + n) (h ∙ sym (one-mul a
 -- where the inner loop stands, the bond is in range
 in-range : (c : In-loop-d) → c.search.site * c.args.axes + c.loop-d.d < length c.args.couplings.now
 in-range c =
-    let q = c in
-    rw q.requires.couplings_len (digits_lt (lt_of_le-ne q.search.invariant.0 c.if-site-sites.false) c.loop-d-test.true)
+    rw c.requires.couplings_len (digits_lt (lt_of_le-ne c.search.invariant.0 c.if-site-sites.false) c.loop-d-test.true)
 
 pub loop-d-preserved : goal.loop-d-preserved
 loop-d-preserved c =

@@ -1,4 +1,4 @@
--- `bonds::first_bad` meets its contract. The invariants: the first bad bond is the first from this site on, and from this direction of it on.
+-- The invariants: the first bad bond is the first from this site on, and from this direction of it on.
 use Rattle.std.proofs.Common.{◌≡◌, ◌+◌, ◌*◌, ◌≤◌, ◌-◌}
 use Rattle.domain.specs.declared.Refusal.TheVariants.{Coupling}
 use Rattle.domain.specs.Refusals.{need_each}

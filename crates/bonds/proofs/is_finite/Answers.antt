@@ -1,4 +1,4 @@
--- `classes::is_finite` meets its contract. A comparison with each infinity.
+-- `bonds::is_finite` meets its contract. A comparison with each infinity.
 use Rattle.std.specs.Float.Ieee.{of_bits, div, neg}
 use Rattle.bonds.proofs.Size.{above-bottom, not-above-bottom}
 use Rattle.bonds.proofs.is_finite.Goals as goal

@@ -1,4 +1,4 @@
--- `classes::size_of` meets its contract. The sign is turned where it is negative.
+-- `bonds::size_of` meets its contract. The sign is turned where it is negative.
 use Rattle.std.proofs.Common.{sym}
 use Rattle.std.specs.Float.Ieee.{of_bits}
 use Rattle.bonds.proofs.Signs.{magnitude-below}

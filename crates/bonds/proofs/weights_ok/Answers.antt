@@ -1,4 +1,4 @@
--- `bonds::weights_ok` meets its contract. The invariant: the weights rise if those from i on rise above the last one passed.
+-- `bonds::weights_ok` meets its contract.
 use Rattle.std.proofs.Common.{sym, ◌∙◌, arith}
 use Rattle.bonds.proofs.Laws.{rising-low, rising-high, rising-passed, rising-ended}
 use Rattle.bonds.proofs.weights_ok.Goals as goal

@@ -1,4 +1,4 @@
--- `classes::weights_ok` meets its contract. The invariant: the weights rise if those from i on rise above the last one passed.
+-- The invariant: the weights rise if those from i on rise above the last one passed.
 use Rattle.std.proofs.Common.{◌≡◌, ◌≤◌, ◌-◌, length, drop}
 use Rattle.domain.specs.Numbers.{zero_f}
 use Rattle.bonds.specs.Classes.{rising}

@@ -1,4 +1,4 @@
--- `domain::all_spins` meets its contract. The invariant: the flag and what is left decide.
+-- `domain::all_spins` meets its contract.
 use Rattle.std.proofs.Common.{arith, sym, ap, ◌∙◌, Bool, drop, pos, ◌&&◌, ◌+◌, get_or, w8}
 use Rattle.std.proofs.lemmas.Int.{to_z-of_z}
 use Rattle.domain.specs.Numbers.{is_spin}

@@ -1,4 +1,4 @@
--- `domain::all_spins` meets its contract. The invariant: the flag and what is left decide.
+-- The invariant: the flag and what is left decide.
 use Rattle.std.proofs.Common.{◌≡◌, length, drop, ◌&&◌, ◌≤◌, ◌-◌}
 use Rattle.domain.specs.Numbers.{is_spin}
 use Rattle.domain.specs.Refusals.{all}

@@ -1,4 +1,4 @@
--- `domain::first_bad_spin` meets its contract. The invariant: the verdict is that from this site on.
+-- `domain::first_bad_spin` meets its contract.
 use Rattle.std.proofs.Common.{pos, w8, ◌≡◌, ◌∙◌, sym, ap, arith, get_or}
 use Rattle.std.proofs.lemmas.Int.{to_z-of_z}
 use Rattle.domain.specs.Numbers.{is_spin}

@@ -1,4 +1,4 @@
--- `domain::first_bad_spin` meets its contract. The invariant: the verdict is that from this site on.
+-- The invariant: the verdict is that from this site on.
 use Rattle.std.proofs.Common.{length, ◌≡◌, ◌≤◌, ◌-◌}
 use Rattle.domain.specs.Numbers.{is_spin}
 use Rattle.domain.specs.Refusals.{need_each}

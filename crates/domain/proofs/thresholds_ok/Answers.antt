@@ -1,4 +1,4 @@
--- `domain::thresholds_ok` meets its contract. The invariant: the thresholds are low enough if those from i on are.
+-- `domain::thresholds_ok` meets its contract.
 use Rattle.std.proofs.Common.{arith, sym, ◌∙◌}
 use Rattle.domain.specs.Each.{low-over, low-passed, low-ended}
 use Rattle.domain.proofs.thresholds_ok.Goals as goal

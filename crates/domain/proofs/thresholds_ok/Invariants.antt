@@ -1,4 +1,4 @@
--- `domain::thresholds_ok` meets its contract. The invariant: the thresholds are low enough if those from i on are.
+-- The invariant: the thresholds are low enough if those from i on are.
 use Rattle.std.proofs.Common.{◌≡◌, ◌≤◌, ◌-◌, length, drop}
 use Rattle.domain.specs.Numbers.{thresholds_ok}
 use Rattle.domain.proofs.thresholds_ok.Given as goal

@@ -1,4 +1,4 @@
--- `lattice::fill` meets its contract. The invariant is `Filling`, and each turn is one of its laws.
+-- `lattice::fill` meets its contract.
 use Rattle.std.proofs.Common.{◌<◌, refl}
 use Rattle.lattice.specs.Shape.{Good}
 use Rattle.lattice.proofs.Filling.{start, four, placed, same-site, next-site, finish-up, finish-down}
@@ -12,8 +12,7 @@ axis<4 : (l : At-loop-k) → l.loop-k.axis < 4
 axis<4 l = four (good l) l.loop-k.invariant
 
 pub loop-k-init : goal.loop-k-init
-loop-k-init c =
-    let p = c.requires in start p.good p.up_len p.down_len
+loop-k-init c = start c.requires.good c.requires.up_len c.requires.down_len
 
 pub bounds-extents-axis : goal.bounds-extents-axis
 bounds-extents-axis c = axis<4 (goal.at.bounds-extents-axis c).At-loop-k
@@ -26,8 +25,7 @@ bounds-rests-axis c = axis<4 (goal.at.bounds-rests-axis c).At-loop-k
 
 pub put_entry-requires-clause-on_axis : goal.put_entry-requires-clause-on_axis
 put_entry-requires-clause-on_axis c =
-    let h = c.loop-k-test.true in
-    placed (good (goal.at.put_entry-requires-clause-on_axis c).At-loop-k) c.loop-k.invariant h
+    placed (good (goal.at.put_entry-requires-clause-on_axis c).At-loop-k) c.loop-k.invariant c.loop-k-test.true
 
 pub loop-k-preserved-then-axis-m : goal.loop-k-preserved-then-axis-m
 loop-k-preserved-then-axis-m c =

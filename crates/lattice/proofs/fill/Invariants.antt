@@ -1,4 +1,4 @@
--- `lattice::fill` meets its contract. The invariant is `Filling`, and each turn is one of its laws.
+-- The invariant is `Filling`, and each turn is one of its laws.
 use Rattle.std.proofs.Common.{◌*◌, ◌-◌}
 use Rattle.lattice.proofs.Filling.{Filling}
 use Rattle.lattice.proofs.fill.Given as goal

@@ -1,4 +1,4 @@
--- `lattice::ranged` meets its contract. The invariant: the range test of all extents is that of those not yet passed.
+-- `lattice::ranged` meets its contract.
 use Rattle.std.proofs.Common.{◌∙◌, sym, ap, rules, drop_of_length-le}
 use Rattle.lattice.specs.Lattice.{in_range}
 use Rattle.lattice.proofs.Laws.Neighbours.{range-step, range-low, range-high}

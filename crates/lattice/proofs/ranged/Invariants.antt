@@ -1,4 +1,4 @@
--- `lattice::ranged` meets its contract. The invariant: the range test of all extents is that of those not yet passed.
+-- The invariant: the range test of all extents is that of those not yet passed.
 use Rattle.std.proofs.Common.{◌≤◌, ◌-◌, ◌≡◌, length, drop}
 use Rattle.lattice.specs.Lattice.{in_range}
 use Rattle.lattice.proofs.ranged.Given as goal

@@ -1,4 +1,4 @@
--- `clusters::checks::all_entries` meets its contract. The invariant: the flag and what is left decide.
+-- `clusters::checks::all_entries` meets its contract.
 use Rattle.std.proofs.Common.{arith, sym, ap, ◌∙◌, Bool, drop, ◌&&◌, ◌+◌}
 use Rattle.domain.specs.Numbers.{is_entry}
 use Rattle.domain.specs.Each.{met-one, met_all}

@@ -1,4 +1,4 @@
--- `clusters::checks::first_big` meets its contract. The invariant: the verdict is that from this entry on.
+-- `clusters::checks::first_big` meets its contract.
 use Rattle.std.proofs.Common.{sym, arith, ◌∙◌}
 use Rattle.domain.specs.Numbers.{is_entry}
 use Rattle.domain.specs.declared.Refusal.TheVariants.{Histogram}

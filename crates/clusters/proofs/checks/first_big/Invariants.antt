@@ -1,4 +1,4 @@
--- `clusters::checks::first_big` meets its contract. The invariant: the verdict is that from this entry on.
+-- The invariant: the verdict is that from this entry on.
 use Rattle.std.proofs.Common.{◌≡◌, length, ◌≤◌, ◌-◌}
 use Rattle.domain.specs.Numbers.{is_entry}
 use Rattle.domain.specs.Refusals.{need_each}

@@ -1,4 +1,4 @@
--- `clusters::coins::flip` meets its contract. The invariant is `Flipping`: no later coin changes a spin that was passed.
+-- `clusters::coins::flip` meets its contract.
 use Rattle.std.proofs.Common.{ℕ, arith, ap, ◌≡◌, ◌∙◌, length, replicate}
 use Rattle.clusters.proofs.Laws.Turns.{flipping-none, flipping-on, next-spin, all-flipped}
 use Rattle.clusters.proofs.coins.flip.Goals as goal

@@ -1,4 +1,4 @@
--- `clusters::coins::flip` meets its contract. The invariant is `Flipping`: no later coin changes a spin that was passed.
+-- The invariant is `Flipping`: no later coin changes a spin that was passed.
 use Rattle.std.proofs.Common.{◌-◌, length}
 use Rattle.clusters.proofs.Laws.Turns.{Flipping}
 use Rattle.clusters.proofs.coins.flip.Given as goal

@@ -15,8 +15,6 @@ all_bonds-p-requires-clause-start c = started c.requires.room c.start.ensures
 
 pub flatten-requires-clause-valid : goal.flatten-requires-clause-valid
 flatten-requires-clause-valid c =
-    let r = c.requires.room in
-    let l = (domain _ r.fit.domain).few in
     (_, (c.all_bonds-p.ensures Observe).joint.rep)
 
 pub flatten-requires-clause-parent_len_bound : goal.flatten-requires-clause-parent_len_bound

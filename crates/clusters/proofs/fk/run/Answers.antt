@@ -23,7 +23,6 @@ pub act-last-requires-clause-roots_in_bounds : goal.act-last-requires-clause-roo
 act-last-requires-clause-roots_in_bounds c =
     let r = c.requires.ready in
     let d = c.draw-p in
-    let n = d.auto.roots ∙ r.roots-n in
     inside-roots (call_by (extents_of c.args.shape) c.args.spins.now c.args.couplings.now c.args.weights.now c.args.thresholds.now c.args.generator c.args.action) r.fit.domain (d.ensures c.args.action)
 
 pub returns : goal.returns

@@ -1,4 +1,4 @@
--- `fk::tallies` meets its contract, each tally by its function's contract over the counts at the roots.
+-- `clusters::fk::tallies` meets its contract, each tally by its function's contract over the counts at the roots.
 use Rattle.std.proofs.Common.{ℕ, List, length, ap, ◌∙◌}
 use Rattle.graph.specs.Forest.{filled}
 use Rattle.clusters.specs.Sizes.{four_of, descending, at_least, twentieth}

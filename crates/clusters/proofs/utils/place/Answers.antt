@@ -1,4 +1,4 @@
--- `tally::place` meets its contract: each return, by the tests that led there.
+-- `clusters::utils::place` meets its contract: each return, by the tests that led there.
 use Rattle.std.proofs.Common.{lt-ltb, le-ltb}
 use Rattle.clusters.proofs.Laws.Top.{placing}
 use Rattle.clusters.proofs.utils.place.Goals as goal

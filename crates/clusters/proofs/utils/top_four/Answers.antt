@@ -1,4 +1,4 @@
--- `tally::top_four` meets its contract. The invariant: the four are those of the counts from i on.
+-- `clusters::utils::top_four` meets its contract.
 use Rattle.std.proofs.Common.{arith, le_refl}
 use Rattle.clusters.proofs.Laws.Top.{topped-none, topped-on}
 use Rattle.clusters.proofs.utils.top_four.Goals as goal

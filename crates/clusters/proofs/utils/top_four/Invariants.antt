@@ -1,4 +1,4 @@
--- `tally::top_four` meets its contract. The invariant: the four are those of the counts from i on.
+-- The invariant: the four are those of the counts from i on.
 use Rattle.std.proofs.Common.{◌≤◌, ◌≡◌, length}
 use Rattle.clusters.proofs.Laws.Top.{top_from}
 use Rattle.clusters.proofs.utils.top_four.Given as goal

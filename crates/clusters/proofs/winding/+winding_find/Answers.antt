@@ -1,4 +1,4 @@
--- `winding::winding_find` meets its contract: at a root the way is 0, else it is the parent's and one link.
+-- `clusters::winding::winding_find` meets its contract: at a root the way is 0, else it is the parent's and one link.
 use Rattle.std.proofs.Common.{sym, ◌∙◌}
 use Rattle.ints.specs.Fits.{read_back}
 use Rattle.clusters.proofs.Laws.Sway.{at-root, rank_falls, parent_in, sum_fits, one_link}

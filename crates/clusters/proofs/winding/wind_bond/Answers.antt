@@ -1,4 +1,4 @@
--- `winding::wind_bond` meets its contract.
+-- `clusters::winding::wind_bond` meets its contract.
 use Rattle.std.proofs.Common.{sym, ◌∙◌}
 use Rattle.clusters.specs.Inside.Sway.{bond, marks}
 use Rattle.clusters.proofs.Laws.Sway.{marks-next}

@@ -1,4 +1,4 @@
--- `winding::winding_way` meets its contract: two lookups, and the way around on each axis.
+-- `clusters::winding::winding_way` meets its contract: two lookups, and the way around on each axis.
 use Rattle.std.proofs.Common.{◌∙◌, eqb}
 use Rattle.ints.specs.Fits.{read_back}
 use Rattle.clusters.specs.Inside.Sway.{bond, rounded}
