@@ -1,67 +1,83 @@
--- One step of each definition along a list, at the index where a loop stands.
-use mathlib.Core.Path.{◌≡◌, sym, ap, ◌∙◌}
+-- One step of each definition along a list, and what a lookup finds.
+use mathlib.Core.Path.{◌≡◌, refl, sym, ◌∙◌}
 use mathlib.Core.List.{List, [], ◌∷◌}
-use Prim.Native.Nat.{ℕ, ◌+◌, ◌≤◌, ◌<◌}
+use Prim.Native.Nat.{ℕ, zero, suc, ◌+◌, ◌<◌}
 use native.Mathlib.Omega.{arith}
 use native.Mathlib.Numerals.{add-one}
 use mathlib.Core.Bool.{Bool, true, false, not, ◌&&◌, cond}
-use lib.ListN.{length, get_or, drop, drop_of_length-le}
+use lib.ListN.{length, get_or, drop}
 use lib.Seq.{drop-cons}
-use lib.Ieee.{Float, nan, lt, eq}
+use lib.Ieee.{Float, nan, inf, fin, lt, eq, ne}
 use lib.Ieee.Scale.{finite}
-use Rattle.bonds.specs.declared.Lookup.{Lookup}
-use Rattle.bonds.specs.declared.Lookup.TheVariants.{In, Nowhere}
+use Rattle.std.specs.Prelude.{Option, Some, None, is_some}
+use Rattle.std.specs.List.{position, position_from}
+use Rattle.std.proofs.lemmas.List.Quantifiers.{position-Some}
+use Rattle.std.proofs.lemmas.Iterator.Adapters.{position_from-zero}
+use Rattle.std.specs.Float.{float_is_finite, float_with_sign}
+use Rattle.bonds.specs.declared.Class.{Class}
 use Rattle.bonds.specs.Classes.{rising, lookup, missing, bad_coupling}
 use Rattle.domain.specs.Numbers.{zero_f}
 use Rattle.bonds.specs.Bond.{magnitude}
 
--- the list from i on begins with the element at i
-pub at-index : {A : Type 0} (d : A) (l : List A) (i : ℕ) → i < length l → drop i l ≡ get_or l i d ∷ drop (i + 1) l
-at-index d l i h = drop-cons l i d h ∙ ap (λ (n : ℕ). get_or l i d ∷ drop n l) (sym (add-one i))
+-- ---- the library's words for a finite number and for a size
+pub finite-is : (x : Float) → float_is_finite x ≡ finite x
+unfolding float_is_finite
+finite-is nan = refl
+finite-is (inf s) = refl
+finite-is (fin s m e) = refl
 
--- and past the end nothing is left
-pub at-end : {A : Type 0} (l : List A) (i : ℕ) → length l ≤ i → drop i l ≡ []
-at-end l i h = drop_of_length-le l h
+pub size-is : (x : Float) → float_with_sign false x ≡ magnitude x
+unfolding float_with_sign
+size-is nan = refl
+size-is (inf s) = refl
+size-is (fin s m e) = refl
 
--- ---- the lookup: found at i, passed at i, at the end
-module _ (w : Float) (ws : List Float) (ts : List ℕ) (same : length ws ≡ length ts) (i : ℕ) where
-  lookup-step : i < length ws → lookup w (drop i ws) (drop i ts)
-      ≡ cond (eq (get_or ws i nan) w) (In (record { weight = get_or ws i nan; threshold = get_or ts i 0 })) (lookup w (drop (i + 1) ws) (drop (i + 1) ts))
-  lookup-step h = let k : i < length ts = omega arith in rw (at-index nan ws i h, at-index 0 ts i k)
+-- ---- the lookup: the first weight that is equal, or none
+lookup-first : (w : Float) (ws : List Float) (ts : List ℕ) → length ws ≡ length ts → (i : ℕ) → i < length ws → eq (get_or ws i nan) w ≡ true
+    → ((k : ℕ) → k < i → eq (get_or ws k nan) w ≡ false) → lookup w ws ts ≡ Some (record { weight = get_or ws i nan; threshold = get_or ts i 0 })
+lookup-first w [] ts same i h e apart = absurd (omega arith)
+lookup-first w (x ∷ xs) [] same i h e apart = absurd (omega arith)
+lookup-first w (x ∷ xs) (t ∷ ts) same zero h e apart = rw e
+lookup-first w (x ∷ xs) (t ∷ ts) same (suc i) h e apart =
+    rw (apart 0 (omega arith)) (lookup-first w xs ts (omega arith) i (omega arith) e (λ k l. apart (suc k) (omega arith)))
 
-  pub lookup-found : i < length ws → eq (get_or ws i nan) w ≡ true → lookup w (drop i ws) (drop i ts) ≡ In (record { weight = get_or ws i nan; threshold = get_or ts i 0 })
-  lookup-found h e = lookup-step h ∙ rw e
+pub lookup-found : (w : Float) (ws : List Float) (ts : List ℕ) → length ws ≡ length ts → (i : ℕ) → position (λ (x : Float). eq x w) ws ≡ Some i
+    → lookup w ws ts ≡ Some (record { weight = get_or ws i nan; threshold = get_or ts i 0 })
+lookup-found w ws ts same i h =
+    let p = position-Some (λ (x : Float). eq x w) ws i nan h in lookup-first w ws ts same i p.0 p.1 p.2
 
-  pub lookup-passed : i < length ws → eq (get_or ws i nan) w ≡ false → lookup w (drop i ws) (drop i ts) ≡ lookup w (drop (i + 1) ws) (drop (i + 1) ts)
-  lookup-passed h e = lookup-step h ∙ rw e
+lookup-none : (w : Float) (ws : List Float) (ts : List ℕ) (k : ℕ) → position_from (λ (x : Float). eq x w) k ws ≡ None → lookup w ws ts ≡ None
+lookup-none w [] ts k h = refl
+lookup-none w (x ∷ xs) [] k h = refl
+lookup-none w (x ∷ xs) (t ∷ ts) k h = go (eq x w) (lookup-none w xs ts (k + 1)) h
+  where
+    go : (b : Bool) → {o : Option ℕ} {l : Option Class} → (o ≡ None → l ≡ None) → cond b (Some k) o ≡ None → cond b (Some (record { weight = x; threshold = t })) l ≡ None
+    go true rest e = absurd (cc)
+    go false rest e = rest e
 
-  pub lookup-ended : length ws ≤ i → lookup w (drop i ws) (drop i ts) ≡ Nowhere
-  lookup-ended h = rw (at-end ws i h)
+pub lookup-missed : (w : Float) (ws : List Float) (ts : List ℕ) → position (λ (x : Float). eq x w) ws ≡ None → lookup w ws ts ≡ None
+lookup-missed w ws ts h = lookup-none w ws ts 0 (sym (position_from-zero (λ (x : Float). eq x w) ws) ∙ h)
 
--- ---- rising weights
-module _ (p : Float) (ws : List Float) (i : ℕ) (h : i < length ws) where
-  rising_step : rising p (drop i ws) ≡ (lt p (get_or ws i nan) && finite (get_or ws i nan) && rising (get_or ws i nan) (drop (i + 1) ws))
-  rising_step = rw (at-index nan ws i h)
+-- ---- rising weights, at the index where a loop stands
+pub rising_step : (p : Float) (ws : List Float) (i : ℕ) → i < length ws
+    → rising p (drop i ws) ≡ (lt p (get_or ws i nan) && finite (get_or ws i nan) && rising (get_or ws i nan) (drop (i + 1) ws))
+rising_step p ws i h = rw (drop-cons ws i nan h, add-one i)
 
-  pub rising-low : lt p (get_or ws i nan) ≡ false → rising p (drop i ws) ≡ false
-  rising-low e = rising_step ∙ rw e
+-- ---- a bad coupling, as the code tests it
+module _ (ws : List Float) (ts : List ℕ) (j : Float) (f : finite j ≡ true) where
+  pub is_zero : ne j zero_f ≡ false → false ≡ bad_coupling ws ts j
+  unfolding ne eq
+  is_zero e = rw f (rw e)
 
-  pub rising-high : lt p (get_or ws i nan) ≡ true → finite (get_or ws i nan) ≡ false → rising p (drop i ws) ≡ false
-  rising-high e g = rising_step ∙ rw (e, g)
-
-  pub rising-passed : lt p (get_or ws i nan) ≡ true → finite (get_or ws i nan) ≡ true → rising p (drop i ws) ≡ rising (get_or ws i nan) (drop (i + 1) ws)
-  rising-passed e g = rising_step ∙ rw (e, g)
-
-pub rising-ended : (p : Float) (ws : List Float) (i : ℕ) → length ws ≤ i → rising p (drop i ws) ≡ true
-rising-ended p ws i h = rw (at-end ws i h)
-
--- ---- a bad coupling
-module _ (ws : List Float) (ts : List ℕ) (j : Float) where
-  pub is_zero : finite j ≡ true → eq j zero_f ≡ true → false ≡ bad_coupling ws ts j
-  is_zero e g = rw (e, g)
-
-  pub by-lookup : finite j ≡ true → eq j zero_f ≡ false → {l : Lookup} → l ≡ lookup (magnitude j) ws ts → missing l ≡ bad_coupling ws ts j
-  by-lookup e g p = rw (e, g, p)
+  pub by-lookup : ne j zero_f ≡ true → (b : Bool) → is_some (lookup (magnitude j) ws ts) ≡ not b → b ≡ bad_coupling ws ts j
+  unfolding ne eq
+  by-lookup e b k = rw f (rw e (told (lookup (magnitude j) ws ts) b k))
+    where
+      told : (l : Option Class) (b : Bool) → is_some l ≡ not b → b ≡ missing l
+      told (Some c) true k = absurd (cc)
+      told (Some c) false k = refl
+      told None true k = refl
+      told None false k = absurd (cc)
 
 -- neither not finite nor in no class
 abbrev pub fair : List Float → List ℕ → Float → Bool

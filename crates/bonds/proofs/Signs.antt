@@ -5,11 +5,11 @@ use Prim.Native.Nat.{ℕ, ◌*◌, zero-le}
 use native.Mathlib.Nat.{zero-mul, add-zero}
 use mathlib.Core.Bool.{Bool, true, false, cond, true≢false}
 use lib.IntN.{ℤ, pos, negsuc, ◌*ℤ◌}
-use lib.Dec.{T, eqb→eq, lit<}
+use lib.Dec.{T, eqb→eq}
 use borrow.Author.Tests.{le-ltb}
 use lib.Ieee.{Float, nan, inf, fin, binary32, up, down, lt, neg, mul, of_int, fits}
 use mir.Syntax.{w8}
-use mir.Val.{SFits, to_z, of_z}
+use mir.Val.{to_z, of_z}
 use Rattle.bonds.specs.declared.BondState.TheVariants.{Idle, Pull}
 use Rattle.domain.specs.Numbers.{is_spin, zero_f}
 use Rattle.bonds.specs.Bond.{alike, magnitude, bond_of}
@@ -23,12 +23,6 @@ at-spin P p q (negsuc n) t = subst (λ (k : ℕ). P (negsuc k)) (sym (eqb→eq n
 -- the machine's product of two spins, an i8
 abbrev pub spins : ℤ → ℤ → ℤ
 spins a b = to_z w8 (of_z w8 a) *ℤ to_z w8 (of_z w8 b)
-
-pub spins-fit : (a b : ℤ) → T (is_spin a) → T (is_spin b) → SFits w8 (spins a b)
-spins-fit a b ha hb =
-    at-spin (λ (x : ℤ). SFits w8 (spins x b))
-    (at-spin (λ (y : ℤ). SFits w8 (spins (pos 1) y)) (record { sfits = lit< tt }) (record { sfits = lit< tt }) b hb)
-    (at-spin (λ (y : ℤ). SFits w8 (spins (negsuc 0) y)) (record { sfits = lit< tt }) (record { sfits = lit< tt }) b hb) a ha
 
 -- the machine's interaction, an f32
 abbrev pub interaction : ℤ → ℤ → Float → Float

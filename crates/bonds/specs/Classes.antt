@@ -1,11 +1,10 @@
 -- Weight classes: what a table of them must be, which class a weight is in, and which coupling is bad.
-use Rattle.std.specs.Prelude.{ℕ, Bool, true, false, not, ◌&&◌, ◌||◌, cond, List, [], ◌∷◌, length, eqb, leb, Float}
+use Rattle.std.specs.Prelude.{ℕ, Bool, true, false, not, ◌&&◌, ◌||◌, cond, List, [], ◌∷◌, length, eqb, leb, Float, Option, Some, None}
 use Rattle.std.specs.Float.Ieee.{lt, eq}
 use Rattle.std.specs.Float.Ieee.Scale.{finite}
 use Rattle.domain.specs.Numbers.{zero_f, thresholds_ok}
 use Rattle.bonds.specs.Bond.{magnitude}
-use Rattle.bonds.specs.declared.Lookup.{Lookup}
-use Rattle.bonds.specs.declared.Lookup.TheVariants.{In, Nowhere}
+use Rattle.bonds.specs.declared.Class.{Class}
 
 -- weights above `last`, finite and strictly rising
 abbrev pub rising : Float → List Float → Bool
@@ -17,14 +16,14 @@ abbrev pub classes_ok : List Float → List ℕ → Bool
 classes_ok ws ts = eqb (length ws) (length ts) && leb (length ws) 64 && rising zero_f ws && thresholds_ok ts
 
 -- the class of the weight w
-abbrev pub lookup : Float → List Float → List ℕ → Lookup
-lookup w [] ts = Nowhere
-lookup w (x ∷ xs) [] = Nowhere
-lookup w (x ∷ xs) (t ∷ ts) = cond (eq x w) (In (record { weight = x; threshold = t })) (lookup w xs ts)
+abbrev pub lookup : Float → List Float → List ℕ → Option Class
+lookup w [] ts = None
+lookup w (x ∷ xs) [] = None
+lookup w (x ∷ xs) (t ∷ ts) = cond (eq x w) (Some (record { weight = x; threshold = t })) (lookup w xs ts)
 
-abbrev pub missing : Lookup → Bool
-missing (In c) = false
-missing Nowhere = true
+abbrev pub missing : Option Class → Bool
+missing (Some c) = false
+missing None = true
 
 -- not finite, or nonzero with a magnitude in no class
 abbrev pub bad_coupling : List Float → List ℕ → Float → Bool

@@ -1,13 +1,11 @@
 -- Values of single bonds and of class tables, by computation: what W3, W4 and W9 say of their bonds, and what a mistake would change.
-use Rattle.std.specs.Prelude.{◌≡◌, refl, List, [], ◌∷◌, true, false, not, ℕ, pos, negsuc, Float}
+use Rattle.std.specs.Prelude.{◌≡◌, refl, List, [], ◌∷◌, true, false, not, ℕ, pos, negsuc, Float, Ok, Err}
 use Rattle.std.specs.Float.{inf, fin}
 use Rattle.std.specs.Float.Ieee.{lt, eq}
 use Rattle.domain.specs.Numbers.{always, zero_f, one_f, minus_one_f}
-use Rattle.domain.specs.Refusals.{need_each}
+use Rattle.domain.specs.Refusals.{Verdict, need_each}
 use Rattle.domain.specs.Table.{Row, ◌gives◌, computed, written}
 use Rattle.domain.specs.declared.Refusal.TheVariants.{Coupling}
-use Rattle.domain.specs.declared.Verdict.{Verdict}
-use Rattle.domain.specs.declared.Verdict.TheVariants.{Accept, Refuse}
 use Rattle.generator.specs.Xoshiro.{step}
 use Rattle.generator.specs.Examples.{seed}
 use Rattle.bonds.specs.declared.Activation.{Activation}
@@ -43,9 +41,9 @@ rows =
     ∷ classes_ok (one_f ∷ []) (4611686018427387905 ∷ []) gives false
     ∷ classes_ok (zero_f ∷ []) (1 ∷ []) gives false
     -- zeros of either sign need no class; the first bad bond gives the place
-    ∷ judged (minus_one_f ∷ zero_f ∷ fin true 0 (pos 0) ∷ []) gives Accept
-    ∷ judged (one_f ∷ fin true 0 (pos 0) ∷ inf true ∷ fin false 1 (pos 1) ∷ []) gives Refuse (Coupling 2)
-    ∷ judged (one_f ∷ fin false 1 (pos 1) ∷ []) gives Refuse (Coupling 1)
+    ∷ judged (minus_one_f ∷ zero_f ∷ fin true 0 (pos 0) ∷ []) gives Ok tt
+    ∷ judged (one_f ∷ fin true 0 (pos 0) ∷ inf true ∷ fin false 1 (pos 1) ∷ []) gives Err (Coupling 2)
+    ∷ judged (one_f ∷ fin false 1 (pos 1) ∷ []) gives Err (Coupling 1)
     ∷ []
 
 pub rows-hold : computed rows ≡ written rows

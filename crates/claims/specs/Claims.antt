@@ -1,6 +1,6 @@
 -- What is proved of the calls of `fk_update`, on one page, in the words of Terms. `Ran c l o s`: a call that was given c and lent l, kept its promise, left
 -- o and answered with s. The proofs are in Laws.
-use Rattle.std.specs.Prelude.{◌≡◌, ◌↔◌, ◌≢◌, true, false, cond, length, get_or, eqb, ℤ, neg_ℤ}
+use Rattle.std.specs.Prelude.{◌≡◌, ◌↔◌, ◌≢◌, true, false, cond, length, get_or, eqb, ℤ, neg_ℤ, Err}
 use Rattle.std.proofs.Common.{sym, ◌∙◌, subst, arith}
 use Rattle.std.proofs.Math.Path.{ap}
 use Rattle.std.proofs.Math.Bool.{and-false}
@@ -8,7 +8,6 @@ use mathlib.Core.List.{List, Memᴰ}
 use Prim.Native.Nat.{ℕ, zero, suc, ◌≤◌, ◌<◌}
 use borrow.Author.Tests.{eq-eqb}
 use Rattle.domain.specs.declared.Refusal.{Refusal}
-use Rattle.domain.specs.declared.Verdict.TheVariants.{Refuse}
 use Rattle.domain.specs.Promise.{Promised}
 use Rattle.lattice.specs.Lattice.{extent, coord}
 use Rattle.lattice.proofs.Laws.Neighbours.{domain}
@@ -17,11 +16,11 @@ use Rattle.graph.specs.Winding.{along}
 use Rattle.graph.specs.Walk.{Walk, Among, Multiple}
 use Rattle.graph.proofs.Theorems as T
 use Rattle.clusters.specs.declared.Action.TheVariants.{Observe, Update}
-use Rattle.clusters.specs.declared.Answer.TheVariants.{Refused}
 use Rattle.clusters.specs.declared.Observation.{Observation}
 use Rattle.clusters.specs.Call.{Call, Lent, size, bonds, judge}
 use Rattle.clusters.specs.Observation.{observation, two_axes}
-use Rattle.clusters.specs.Update.{Seen, Outcome, left, bond_at, spin_at, drawn, is_active, active, ended, accepted, outcome}
+use Rattle.clusters.specs.declared.Seen.{Seen}
+use Rattle.clusters.specs.Update.{Outcome, left, bond_at, spin_at, drawn, is_active, active, ended, accepted, outcome}
 use Rattle.clusters.proofs.Laws.Places.{one-step}
 use Rattle.clusters.proofs.Laws.Drawn.{drawn-sound}
 use Rattle.clusters.proofs.Laws.Outcome as O
@@ -34,7 +33,7 @@ use Rattle.claims.specs.Laws.Drawn as D
 use Rattle.claims.specs.Laws.Largest.{first-greatest}
 
 -- ---- 1. A refused call leaves everything as it was.
-pub refused-unchanged : (c : Call) (l : Lent) (r : Refusal) (o : Outcome) → Promised (outcome c) l o → judge c l ≡ Refuse r → o ≡ left (Refused r) c.spins l
+pub refused-unchanged : (c : Call) (l : Lent) (r : Refusal) (o : Outcome) → Promised (outcome c) l o → judge c l ≡ Err r → o ≡ left (Err r) c.spins l
 refused-unchanged c l r o = O.refused-unchanged c l r
 
 -- What an accepted one leaves does not turn on what the lent buffers held, the histogram apart.

@@ -6,7 +6,8 @@ use Rattle.graph.specs.Winding.{along}
 use Rattle.graph.specs.Walk.{Walk}
 use Rattle.clusters.specs.declared.Observation.{Observation}
 use Rattle.clusters.specs.Call.{Call, Lent}
-use Rattle.clusters.specs.Update.{Seen, Outcome, outcome, active}
+use Rattle.clusters.specs.declared.Seen.{Seen}
+use Rattle.clusters.specs.Update.{Outcome, outcome, active}
 
 -- an accepted call: given c and lent l it kept its promise, left o, and answered with s
 pub record Ran (c : Call) (l : Lent) (o : Outcome) (s : Seen) : Type 0 where

@@ -1,9 +1,8 @@
 -- A call of update or observe: what it is given, what it is lent, and the verdict of its checks, in document 01's order.
 use Rattle.std.specs.Prelude.{ℕ, ◌+◌, ◌*◌, Bool, not, List, [], ◌∷◌, length, eqb, ℤ, Float}
-use Rattle.domain.specs.declared.Verdict.{Verdict}
 use Rattle.domain.specs.declared.Refusal.TheVariants.{Shape, Length, Generator, Classes, Spin, Coupling, Histogram}
 use Rattle.domain.specs.Numbers.{is_spin, is_entry}
-use Rattle.domain.specs.Refusals.{need, every, need_each, checks}
+use Rattle.domain.specs.Refusals.{Verdict, need, every, need_each, checks}
 use Rattle.generator.specs.declared.Xoshiro256StarStar.{Xoshiro256StarStar}
 use Rattle.generator.specs.Xoshiro.{dead}
 use Rattle.lattice.specs.Lattice.{sites, in_domain}

@@ -3,6 +3,7 @@ pub mod Bare
 pub mod Join
 pub mod Links
 pub mod Placed
+pub mod Read
 pub mod Rep
 pub mod Run
 pub mod Steps

@@ -6,7 +6,8 @@ use Rattle.generator.specs.declared.Xoshiro256StarStar.{Xoshiro256StarStar}
 use Rattle.generator.specs.Examples.{seed}
 use Rattle.clusters.specs.declared.Action.{Action}
 use Rattle.clusters.specs.Call.{Call, Lent, size}
-use Rattle.clusters.specs.Update.{Seen, outcome}
+use Rattle.clusters.specs.declared.Seen.{Seen}
+use Rattle.clusters.specs.Update.{outcome}
 
 abbrev pub up : ℤ
 up = pos 1

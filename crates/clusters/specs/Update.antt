@@ -1,9 +1,8 @@
 -- One update: document 01, "One update", steps 1 to 4, and everything that a call leaves.
-use Rattle.std.specs.Prelude.{ℕ, zero, suc, ◌*◌, ◌/◌, ◌%◌, Bool, cond, List, [], ◌∷◌, ◌++◌, length, get_or, set, replicate, eqb, ℤ, pos, neg_ℤ}
+use Rattle.std.specs.Prelude.{ℕ, zero, suc, ◌*◌, ◌/◌, ◌%◌, Bool, cond, List, [], ◌∷◌, ◌++◌, length, get_or, set, replicate, eqb, ℤ, pos, neg_ℤ, Result, Ok, Err}
 use Rattle.std.specs.Float.{nan}
-use Rattle.domain.specs.Refusals.{Reply, done, refused_as}
-use Rattle.domain.specs.declared.Verdict.{Verdict}
-use Rattle.domain.specs.declared.Verdict.TheVariants.{Accept, Refuse}
+use Rattle.domain.specs.declared.Refusal.{Refusal}
+use Rattle.domain.specs.Refusals.{Verdict, Reply, done, refused_as}
 use Rattle.generator.specs.declared.Xoshiro256StarStar.{Xoshiro256StarStar}
 use Rattle.generator.specs.Xoshiro.{step, heads_of}
 use Rattle.lattice.specs.Lattice.{fwd}
@@ -15,9 +14,7 @@ use Rattle.graph.specs.Forest.{Bond, Forest, forest, sizes}
 use Rattle.clusters.specs.Sizes.{raised}
 use Rattle.clusters.specs.declared.Action.{Action}
 use Rattle.clusters.specs.declared.Action.TheVariants.{Observe, Update}
-use Rattle.clusters.specs.declared.Observation.{Observation}
-use Rattle.clusters.specs.declared.Answer.{Answer}
-use Rattle.clusters.specs.declared.Answer.TheVariants.{Done, Refused}
+use Rattle.clusters.specs.declared.Seen.{Seen}
 use Rattle.clusters.specs.Call.{Call, Lent, size, bonds, judge}
 use Rattle.clusters.specs.Observation.{observation}
 
@@ -96,14 +93,13 @@ ended Update f spins g =
     record { decisions = k.decisions; spins = turned k.decisions f.roots spins; generator = k.generator }
 
 -- ---- the whole call
--- what an accepted call answers with
-pub record Seen : Type 0 where
-  pub generator : Xoshiro256StarStar
-  pub observation : Observation
+-- what a call answers: what it has seen, or its refusal
+abbrev pub Answer : Type 0
+Answer = Result Seen Refusal
 
 abbrev pub reply_of : Answer → Reply Seen
-reply_of (Done g o) = done (record { generator = g; observation = o })
-reply_of (Refused r) = refused_as r
+reply_of (Ok s) = done s
+reply_of (Err r) = refused_as r
 
 -- what a call leaves: its reply, the spins, and what was lent
 pub record Outcome : Type 0 where
@@ -124,7 +120,7 @@ accepted c l =
     let f = forest (size c) d.active in
     let e = ended c.action f c.spins d.generator in
     let counts = sizes (size c) f in
-    left (Done e.generator (observation c.extents d.active)) e.spins
+    left (Ok (record { generator = e.generator; observation = observation c.extents d.active })) e.spins
     (record {
       roots = f.roots;
       counts = counts;
@@ -138,8 +134,8 @@ accepted c l =
 
 unfoldable pub settled : Call → Lent → Verdict → Outcome
 unfolding accepted
-settled c l Accept = accepted c l
-settled c l (Refuse r) = left (Refused r) c.spins l
+settled c l (Ok tt) = accepted c l
+settled c l (Err r) = left (Err r) c.spins l
 
 -- what a call leaves: on refusal, everything as it was
 unfoldable pub outcome : Call → Lent → Outcome

@@ -4,6 +4,9 @@
 mod checks;
 mod coins;
 mod fk;
+mod input;
+mod links;
+mod roots;
 mod utils;
 mod winding;
 
@@ -12,9 +15,11 @@ ghost use Rattle.clusters.specs.Update.{left, outcome};
 ghost use Rattle.clusters.specs.Inside.Whole.{call_by, lent_by};
 
 use checks::Lens;
-use domain::{Refusal, Verdict};
+use domain::Refusal;
 use generator::Xoshiro256StarStar;
+use roots::Roots;
 
+// What step 4 does: the promise of `fk_update` speaks of both cases.
 #[derive(Clone, Copy)]
 pub enum Action {
     Observe,
@@ -22,7 +27,7 @@ pub enum Action {
 }
 
 // The four largest component sizes, descending.
-#[derive(Clone, Copy)]
+#[derive(Clone, Copy, Default)]
 pub struct Top {
     pub first: usize,
     pub second: usize,
@@ -47,21 +52,30 @@ pub struct Observation {
     pub torn: bool,
 }
 
+// What a call is given to read, besides the spins.
 #[derive(Clone, Copy)]
-pub enum Answer {
-    Done(Xoshiro256StarStar, Observation),
-    Refused(Refusal),
+pub struct Job<'a> {
+    pub extents: &'a [usize],
+    pub couplings: &'a [f32],
+    pub weights: &'a [f32],
+    pub thresholds: &'a [u64],
+    pub generator: Xoshiro256StarStar,
+    pub action: Action,
+}
+
+// What an accepted call answers with.
+#[derive(Clone, Copy)]
+pub struct Seen {
+    pub generator: Xoshiro256StarStar,
+    pub observation: Observation,
 }
 
 // One update or observation: the checks in order, then the call. Refused, nothing is written.
+// Each lent slice is a parameter: two slices of one struct cannot be lent at once through a reference, and a slice two structs deep loses
+// what it holds in the end, so that a caller would not learn it.
 pub fn fk_update(
-    extents: &[usize],
+    job: Job<'_>,
     spins: &mut [i8],
-    couplings: &[f32],
-    weights: &[f32],
-    thresholds: &[u64],
-    generator: Xoshiro256StarStar,
-    action: Action,
     roots: &mut [u32],
     counts: &mut [u32],
     decisions: &mut [u8],
@@ -70,12 +84,12 @@ pub fn fk_update(
     ranks: &mut [u8],
     offsets: &mut [i64],
     marks: &mut [u8],
-) -> Answer
-    ensures { Promised (outcome (call_by extents.now spins.old couplings.now weights.now thresholds.now generator action)) (lent_by roots.old counts.old decisions.old histogram.old parents.old ranks.old offsets.old marks.old) (left result spins.new (lent_by roots.new counts.new decisions.new histogram.new parents.new ranks.new offsets.new marks.new)) }
+) -> Result<Seen, Refusal>
+    ensures { Promised (outcome (call_by job.entry.extents.now spins.old job.entry.couplings.now job.entry.weights.now job.entry.thresholds.now job.entry.generator job.entry.action)) (lent_by roots.old counts.old decisions.old histogram.old parents.old ranks.old offsets.old marks.old) (left result spins.new (lent_by roots.new counts.new decisions.new histogram.new parents.new ranks.new offsets.new marks.new)) }
 {
-    let z = Lens {
+    let lens = Lens {
         spins: spins.len(),
-        couplings: couplings.len(),
+        couplings: job.couplings.len(),
         roots: roots.len(),
         counts: counts.len(),
         decisions: decisions.len(),
@@ -85,16 +99,22 @@ pub fn fk_update(
         offsets: offsets.len(),
         marks: marks.len(),
     };
-    match checks::judge(
-        extents, spins, couplings, weights, thresholds, generator, histogram, z,
-    ) {
-        Verdict::Refuse(why) => Answer::Refused(why),
-        Verdict::Accept => {
-            let shape = lattice::shape_of(extents);
-            fk::run(
-                shape, spins, couplings, weights, thresholds, generator, action, roots, counts,
-                decisions, histogram, parents, ranks, offsets, marks,
-            )
-        }
-    }
+    let input = checks::judge(job, spins, histogram, lens)?;
+    let pass = fk::draw(
+        &input,
+        roots,
+        decisions,
+        parents,
+        ranks,
+        offsets,
+        job.generator,
+    );
+    let roots = Roots { row: roots };
+    let observation = fk::tallies(roots, counts, histogram, &input.lattice, pass);
+    fk::clean(parents, ranks, offsets, marks);
+    let generator = fk::act(job.action, roots, decisions, spins, pass.state);
+    Ok(Seen {
+        generator,
+        observation,
+    })
 }

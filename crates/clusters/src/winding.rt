@@ -1,28 +1,50 @@
 // Winding: the walk from a site to its root, and the joining of two sites.
-ghost use Rattle.std.specs.Prelude.{◌≡◌, ◌+◌, ◌*◌, ◌%◌, ◌<◌, ◌≤◌, length, get_or, set, pos, nat_abs, ◌+ℤ◌, not, ◌||◌, eqb};
+ghost use Rattle.std.specs.Prelude.{◌≡◌, ◌*◌, ◌<◌, ◌≤◌, length, FitsSigned, ◌+◌, ◌+ℤ◌, ◌^◌};
 ghost use Rattle.std.specs.Int.{w64};
-ghost use Rattle.std.proofs.Common.{SFits};
-ghost use Rattle.clusters.specs.Inside.Join.{join, wind, Room};
-ghost use Rattle.clusters.specs.Inside.Sway.{bond, far, marks, moved, rounded, Bonded, FoundAt, Held, United, WayAt};
+ghost use Rattle.clusters.specs.Inside.Join.{join, link, wind_of, Linkable, SameLists};
+ghost use Rattle.clusters.specs.Inside.Sway.{around_of, marks, moved, Bondable, Bonded, FoundAt, Held, Near, United, WayAt};
 
-use crate::utils::wide;
-use ints::{minus, negated, plus};
-
-// What a bond between two sites comes to.
+// A bond from a site to its neighbour on an axis.
 #[derive(Clone, Copy)]
-pub(crate) enum Closing {
-    // Their components are joined.
-    Joined,
-    // They were of one component, and the way around the bond is this far on each axis.
-    Closed(i64, i64),
+pub(crate) struct Bond {
+    pub(crate) x: usize,
+    pub(crate) y: usize,
+    pub(crate) axis: usize,
 }
 
 // The flags of the two axes, and torn.
-#[derive(Clone, Copy)]
+#[derive(Clone, Copy, Default)]
 pub(crate) struct Marks {
     pub(crate) x: bool,
     pub(crate) y: bool,
     pub(crate) torn: bool,
+}
+
+impl Marks {
+    // The flags after a bond, which may have closed a loop.
+    fn after(self, closing: Option<(i64, i64)>, ex: u64, ey: u64) -> Marks
+        requires { (0 < ex) × (0 < ey) }
+        ensures { result ≡ marks self closing ex ey }
+    {
+        let Some((dx, dy)) = closing else {
+            return self;
+        };
+        let a = ints::magnitude(dx);
+        let b = ints::magnitude(dy);
+        Marks {
+            x: self.x || a != 0,
+            y: self.y || b != 0,
+            torn: self.torn || a % ex != 0 || b % ey != 0,
+        }
+    }
+}
+
+// A bond's two roots, and the way around it on each axis.
+#[derive(Clone, Copy)]
+pub(crate) struct Way {
+    pub(crate) a: usize,
+    pub(crate) b: usize,
+    pub(crate) around: (i64, i64),
 }
 
 // Where a walk ends, and how far from there it began on each axis.
@@ -33,235 +55,132 @@ pub(crate) struct Found {
     pub(crate) y: i64,
 }
 
-// The place of a site that lies (x, y) from its parent, whose place is f.
-fn shifted(f: Found, x: i64, y: i64) -> Found
-    requires { SFits w64 (x +ℤ f.x) × SFits w64 (y +ℤ f.y) }
-    ensures { result ≡ moved f x y }
-{
-    let sx = plus(x, f.x);
-    let sy = plus(y, f.y);
-    Found {
-        root: f.root,
-        x: sx,
-        y: sy,
-    }
-}
-
-// The site that a site is linked to.
-fn parent_of(parent: &[u32], site: usize) -> usize
-    requires { site < length parent.now }
-    ensures { result ≡ get_or parent.now site 0 }
-{
-    wide(parent[site])
-}
-
-// A site's own offset on an axis.
-fn offset_at(offset: &[i64], site: usize, axis: usize) -> i64
-    requires { 2 * site + axis < length offset.now }
-    ensures { result ≡ get_or offset.now (2 * site + axis) (pos 0) }
-{
-    offset[2 * site + axis]
-}
-
-// The root of a site, with the way there: its own offset and its parent's.
-pub(crate) fn winding_find(parent: &[u32], rank: &[u8], offset: &[i64], site: usize) -> Found
-    requires site_in_bounds { site < length parent.now }
-    requires held { Held parent.now rank.now offset.now }
-    ensures { FoundAt parent.now rank.now offset.now site result }
-{
-    let up = parent_of(parent, site);
-    if up == site {
+impl Found {
+    // The place of a site that lies (x, y) from the one found here.
+    fn moved(self, x: i64, y: i64) -> Found
+        requires { FitsSigned w64 (x +ℤ self.x) × FitsSigned w64 (y +ℤ self.y) }
+        ensures { result ≡ moved self x y }
+    {
         Found {
-            root: site,
-            x: 0,
-            y: 0,
+            root: self.root,
+            x: x + self.x,
+            y: y + self.y,
         }
-    } else {
-        let x = offset_at(offset, site, 0);
-        let y = offset_at(offset, site, 1);
-        let f = winding_find(parent, rank, offset, up);
-        shifted(f, x, y)
+    }
+
+    // The way around a bond on an axis, from the places of its two sites.
+    fn around(self, to: Found, axis: usize) -> Way
+        requires { Near self × Near to }
+        ensures { result ≡ around_of self to axis }
+    {
+        let x = self.x - to.x + (axis == 0) as i64;
+        let y = self.y - to.y + (axis == 1) as i64;
+        Way {
+            a: self.root,
+            b: to.root,
+            around: (x, y),
+        }
     }
 }
 
-// A bond's two roots, and the way around it.
-#[derive(Clone, Copy)]
-pub(crate) struct Way {
-    pub(crate) a: usize,
-    pub(crate) b: usize,
-    pub(crate) x: i64,
-    pub(crate) y: i64,
+// Each site's parent, its rank, and its two offsets from its parent. `Held` is a clause and no ghost field, which has to hold at each write:
+// `hang` makes three.
+#[derive(Drop)]
+pub(crate) struct Winding<'a> {
+    pub(crate) parents: &'a mut [u32],
+    pub(crate) ranks: &'a mut [u8],
+    pub(crate) offsets: &'a mut [i64],
 }
 
-// The way around a bond on one axis.
-fn around_on(f: i64, g: i64, on: bool) -> i64
-    requires { (nat_abs f ≤ far) × (nat_abs g ≤ far) }
-    ensures { result ≡ rounded f g on }
-{
-    let back = minus(f, g);
-    if on { plus(back, 1) } else { plus(back, 0) }
-}
-
-// The roots of a bond's two sites, and the way around it.
-fn winding_way(
-    parent: &[u32],
-    rank: &[u8],
-    offset: &[i64],
-    site: usize,
-    neighbor: usize,
-    axis: usize,
-) -> Way
-    requires held { Held parent.now rank.now offset.now }
-    requires site_in_bounds { (site < length parent.now) × (neighbor < length parent.now) }
-    ensures { WayAt parent.now rank.now offset.now (bond site neighbor axis) result }
-{
-    let f = winding_find(parent, rank, offset, site);
-    let g = winding_find(parent, rank, offset, neighbor);
-    let x = around_on(f.x, g.x, axis == 0);
-    let y = around_on(f.y, g.y, axis == 1);
-    Way {
-        a: f.root,
-        b: g.root,
-        x: x,
-        y: y,
+impl<'a> Winding<'a> {
+    // The root of a site, with the way there: its own offset and its parent's.
+    fn find(&self, site: usize) -> Found
+        requires site_in_bounds { site < length self.now.parents.now }
+        requires held { Held self.now }
+        ensures { FoundAt self.now site result }
+    {
+        let up = self.parents[site] as usize;
+        if up == site {
+            return Found {
+                root: site,
+                x: 0,
+                y: 0,
+            };
+        }
+        let x = self.offsets[2 * site];
+        let y = self.offsets[2 * site + 1];
+        self.find(up).moved(x, y)
     }
-}
 
-// A root comes under another.
-fn hang(parent: &mut [u32], offset: &mut [i64], low: usize, high: usize, x: i64, y: i64)
-    requires low_in_bounds { low < length parent.old }
-    requires offset_len { length offset.old ≡ 2 * length parent.old }
-    requires high_bound { high < 4294967296 }
-    ensures parents { parent.new ≡ set parent.old low high }
-    ensures offsets { offset.new ≡ set (set offset.old (2 * low + 0) x) (2 * low + 1) y }
-{
-    parent[low] = high as u32;
-    offset[2 * low + 0] = x;
-    offset[2 * low + 1] = y;
-}
+    // The roots of a bond's two sites, and the way around it.
+    fn way(&self, bond: Bond) -> Way
+        requires { Bondable self.now bond }
+        ensures { WayAt self.now bond result }
+    {
+        let f = self.find(bond.x);
+        let g = self.find(bond.y);
+        f.around(g, bond.axis)
+    }
 
-// A root's rank rises by 1.
-fn lift(rank: &mut [u8], root: usize)
-    requires root_in_bounds { root < length rank.old }
-    requires root_bound { get_or rank.old root 0 < 255 }
-    ensures { rank.new ≡ set rank.old root (get_or rank.old root 0 + 1) }
-{
-    rank[root] = rank[root] + 1;
-}
+    // A root comes under another, from which it lies (x, y).
+    fn hang(&mut self, low: usize, high: usize, x: i64, y: i64)
+        requires low_in_bounds { low < length self.old.parents.now }
+        requires offsets_len { length self.old.offsets.now ≡ 2 * length self.old.parents.now }
+        requires high_bound { high < 2 ^ 32 }
+        ensures same { SameLists self.old self.new }
+        ensures linked { wind_of self.new ≡ link (wind_of self.old) low high x y }
+    {
+        self.parents[low] = high as u32;
+        self.offsets[2 * low] = x;
+        self.offsets[2 * low + 1] = y;
+    }
 
-// Two roots joined by their ranks: the second lies (x, y) from the first.
-fn winding_join(
-    parent: &mut [u32],
-    rank: &mut [u8],
-    offset: &mut [i64],
-    a: usize,
-    b: usize,
-    x: i64,
-    y: i64,
-)
-    requires room { Room (wind parent.old rank.old offset.old) }
-    requires a_in_bounds { (a < length parent.old) × (b < length parent.old) }
-    requires a_bound { get_or rank.old a 0 < 255 }
-    requires x_bound { (nat_abs x < 9223372036854775808) × (nat_abs y < 9223372036854775808) }
-    ensures { wind parent.new rank.new offset.new ≡ join (wind parent.old rank.old offset.old) a b x y }
-{
-    let ra = rank[a];
-    let rb = rank[b];
-    if ra < rb {
-        hang(parent, offset, a, b, negated(x), negated(y));
-    } else {
-        hang(parent, offset, b, a, x, y);
+    // Two roots joined by their ranks: the second lies (x, y) from the first.
+    #[tactic(auto, using(std::proofs::lemmas::Grind::common_steps, crate::proofs::Laws::Join::negated), unfolding(crate::specs::Inside::Join::join))]
+    fn join(&mut self, way: Way)
+        requires { Linkable (wind_of self.old) way }
+        ensures same { SameLists self.old self.new }
+        ensures joined { wind_of self.new ≡ join (wind_of self.old) way.a way.b way.around.0 way.around.1 }
+    {
+        let Way {
+            a,
+            b,
+            around: (x, y),
+        } = way;
+        let ra = self.ranks[a];
+        let rb = self.ranks[b];
+        if ra < rb {
+            self.hang(a, b, -x, -y);
+            return;
+        }
+        self.hang(b, a, x, y);
         if ra == rb {
-            lift(rank, a);
+            self.ranks[a] = ra + 1;
         }
     }
-}
 
-// A bond from a site to its neighbour on an axis: the two components become one, or the bond closes a loop.
-pub(crate) fn winding_union(
-    parent: &mut [u32],
-    rank: &mut [u8],
-    offset: &mut [i64],
-    site: usize,
-    neighbor: usize,
-    axis: usize,
-) -> Closing
-    requires held { Held parent.old rank.old offset.old }
-    requires site_in_bounds { (site < length parent.old) × (neighbor < length parent.old) }
-    ensures { United parent.old rank.old offset.old parent.new rank.new offset.new (bond site neighbor axis) result }
-{
-    let q = winding_way(parent, rank, offset, site, neighbor, axis);
-    let a = q.a;
-    let b = q.b;
-    if a == b {
-        return Closing::Closed(q.x, q.y);
+    // The two components of a bond become one, or the bond closes a loop: the way around it.
+    fn union(&mut self, bond: Bond) -> Option<(i64, i64)>
+        requires { Bondable self.old bond }
+        ensures same { SameLists self.old self.new }
+        ensures united { United self.old self.new bond result }
+    {
+        let way = self.way(bond);
+        if way.a == way.b {
+            return Some(way.around);
+        }
+        self.join(way);
+        None
     }
-    winding_join(parent, rank, offset, a, b, q.x, q.y);
-    Closing::Joined
-}
 
-fn either(a: bool, b: bool) -> bool
-    ensures { result ≡ (a || b) }
-{
-    if a { true } else { b }
-}
-
-fn nonzero(n: u64) -> bool
-    ensures { result ≡ not (eqb n 0) }
-{
-    n != 0
-}
-
-fn uneven(n: u64, e: u64) -> bool
-    requires { 0 < e }
-    ensures { result ≡ not (eqb (n % e) 0) }
-{
-    n % e != 0
-}
-
-// The flags after a bond that closes a loop.
-fn crossed(f: Marks, dx: i64, dy: i64, ex: u64, ey: u64) -> Marks
-    requires { (0 < ex) × (0 < ey) }
-    ensures { result ≡ marks f (Closing.Closed dx dy) ex ey }
-{
-    let a = ints::magnitude(dx);
-    let b = ints::magnitude(dy);
-    let t = either(uneven(a, ex), uneven(b, ey));
-    Marks {
-        x: either(f.x, nonzero(a)),
-        y: either(f.y, nonzero(b)),
-        torn: either(f.torn, t),
+    // One bond more, and the flags after it.
+    pub(crate) fn bond(&mut self, bond: Bond, ex: u64, ey: u64, marks: Marks) -> Marks
+        requires bondable { Bondable self.old bond }
+        requires extents_positive { (0 < ex) × (0 < ey) }
+        ensures same { SameLists self.old self.new }
+        ensures bonded { Bonded self.old self.new bond ex ey marks result }
+    {
+        let closing = self.union(bond);
+        marks.after(closing, ex, ey)
     }
-}
-
-// The flags after a bond.
-fn marked(f: Marks, c: Closing, ex: u64, ey: u64) -> Marks
-    requires { (0 < ex) × (0 < ey) }
-    ensures { result ≡ marks f c ex ey }
-{
-    match c {
-        Closing::Joined => f,
-        Closing::Closed(dx, dy) => crossed(f, dx, dy, ex, ey),
-    }
-}
-
-// One bond from a site to its neighbour on an axis, and the flags after it.
-pub(crate) fn wind_bond(
-    parent: &mut [u32],
-    rank: &mut [u8],
-    offset: &mut [i64],
-    site: usize,
-    neighbor: usize,
-    axis: usize,
-    ex: u64,
-    ey: u64,
-    f: Marks,
-) -> Marks
-    requires held { Held parent.old rank.old offset.old }
-    requires site_in_bounds { (site < length parent.old) × (neighbor < length parent.old) }
-    requires ex_nonzero { (0 < ex) × (0 < ey) }
-    ensures { Bonded parent.old rank.old offset.old parent.new rank.new offset.new (bond site neighbor axis) ex ey f result }
-{
-    let c = winding_union(parent, rank, offset, site, neighbor, axis);
-    marked(f, c, ex, ey)
 }

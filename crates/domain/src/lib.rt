@@ -1,13 +1,18 @@
 // Why a call is refused, and the checks that every call makes alike.
 #![tactic(auto)]
 
-ghost use Rattle.std.specs.Prelude.{◌≡◌};
-ghost use Rattle.domain.specs.declared.Refusal.TheVariants.{Spin};
-ghost use Rattle.domain.specs.Numbers.{is_spin, thresholds_ok};
-ghost use Rattle.domain.specs.Refusals.{all, need_each, number_of, place_of};
+ghost use Rattle.std.specs.Prelude.{◌≡◌, ℕ, Bool, Some};
+ghost use Rattle.std.specs.List.{list_all};
+ghost use Rattle.domain.specs.declared.Refusal.{Refusal};
+ghost use Rattle.domain.specs.declared.Refusal.TheVariants.{Spin, Histogram};
+ghost use Rattle.domain.specs.Numbers.{is_spin, is_entry, thresholds_ok};
+ghost use Rattle.domain.specs.Refusals.{need_each, number_of, place_of, text_of};
+
+use std::error::Error;
+use std::fmt;
 
 // specs/Refusals.antt gives the number and the place of each case.
-#[derive(Clone, Copy)]
+#[derive(Clone, Copy, Debug, PartialEq, Eq)]
 pub enum Refusal {
     Shape,
     Length,
@@ -22,90 +27,140 @@ pub enum Refusal {
     Oversize,
 }
 
-// What the checks of a call come to.
-#[derive(Clone, Copy)]
-pub enum Verdict {
-    Accept,
-    Refuse(Refusal),
-}
+impl Refusal {
+    // The number that the case has in a reply.
+    pub fn number(self) -> u64
+        ensures { result ≡ number_of self }
+    {
+        match self {
+            Refusal::Shape => 1,
+            Refusal::Length => 2,
+            Refusal::Generator => 3,
+            Refusal::Classes => 4,
+            Refusal::Spin(_) => 5,
+            Refusal::Coupling(_) => 6,
+            Refusal::Histogram(_) => 7,
+            Refusal::Row => 8,
+            Refusal::UnitCoupling(_) => 9,
+            Refusal::Malformed => 10,
+            Refusal::Oversize => 11,
+        }
+    }
 
-// The number of a refusal, and its place.
-pub fn number_of(reason: Refusal) -> u64
-    ensures { result ≡ number_of reason }
-{
-    match reason {
-        Refusal::Shape => 1,
-        Refusal::Length => 2,
-        Refusal::Generator => 3,
-        Refusal::Classes => 4,
-        Refusal::Spin(_) => 5,
-        Refusal::Coupling(_) => 6,
-        Refusal::Histogram(_) => 7,
-        Refusal::Row => 8,
-        Refusal::UnitCoupling(_) => 9,
-        Refusal::Malformed => 10,
-        Refusal::Oversize => 11,
+    // The entry that is refused, and 0 where there is none.
+    // 0 where a refusal has no place: so `place_of` of the rules says.
+    pub fn place(self) -> usize
+        ensures { result ≡ place_of self }
+    {
+        match self {
+            Refusal::Shape => 0,
+            Refusal::Length => 0,
+            Refusal::Generator => 0,
+            Refusal::Classes => 0,
+            Refusal::Spin(site) => site,
+            Refusal::Coupling(bond) => bond,
+            Refusal::Histogram(size) => size,
+            Refusal::Row => 0,
+            Refusal::UnitCoupling(bond) => bond,
+            Refusal::Malformed => 0,
+            Refusal::Oversize => 0,
+        }
     }
 }
 
-pub fn place_of(reason: Refusal) -> usize
-    ensures { result ≡ place_of reason }
-{
-    match reason {
-        Refusal::Shape => 0,
-        Refusal::Length => 0,
-        Refusal::Generator => 0,
-        Refusal::Classes => 0,
-        Refusal::Spin(site) => site,
-        Refusal::Coupling(bond) => bond,
-        Refusal::Histogram(size) => size,
-        Refusal::Row => 0,
-        Refusal::UnitCoupling(bond) => bond,
-        Refusal::Malformed => 0,
-        Refusal::Oversize => 0,
+impl fmt::Display for Refusal {
+    ghost output = { λ r. Some (text_of r) };
+
+    fn fmt<W: fmt::Write>(&self, f: &mut fmt::Formatter<W>) -> fmt::Result {
+        write!(f, "refused {} {}", self.number(), self.place())
     }
 }
 
-fn is_spin(s: i8) -> bool
-    ensures { result ≡ is_spin s }
-{
-    (s == 1) | (s == -1)
+impl Error for Refusal {}
+
+// What each entry of a row must be, and the refusal of one that is not.
+pub trait Judged {
+    type Entry: Copy;
+
+    ghost fits: { Self.Entry → Bool };
+
+    ghost refusal: { ℕ → Refusal };
+
+    fn fits(entry: Self::Entry) -> bool
+        ensures { result ≡ fits entry };
+
+    fn refusal(place: usize) -> Refusal
+        ensures { result ≡ refusal place };
 }
 
-// No early exit, so that the machine takes many spins at once.
-fn all_spins(spins: &[i8]) -> bool
-    ensures { result ≡ all is_spin spins.now }
+// The spins of a call: refusal 5.
+pub struct Spins;
+
+impl Judged for Spins {
+    type Entry = i8;
+
+    ghost fits = { is_spin };
+
+    ghost refusal = { Spin };
+
+    fn fits(entry: i8) -> bool {
+        (entry == 1) | (entry == -1)
+    }
+
+    fn refusal(place: usize) -> Refusal {
+        Refusal::Spin(place)
+    }
+}
+
+// The histogram's entries, as the call begins: refusal 7.
+pub struct Entries;
+
+impl Judged for Entries {
+    type Entry = u64;
+
+    ghost fits = { is_entry };
+
+    ghost refusal = { Histogram };
+
+    fn fits(entry: u64) -> bool {
+        entry <= 9223372036854775808
+    }
+
+    fn refusal(place: usize) -> Refusal {
+        Refusal::Histogram(place)
+    }
+}
+
+// No early exit, so that the machine takes many entries at once.
+fn all_fit<J: Judged>(row: &[J::Entry]) -> bool
+    ensures { result ≡ list_all J.fits row.now }
 {
     let mut ok = true;
-    let mut i: usize = 0;
-    while i < spins.len() {
-        ok = ok & is_spin(spins[i]);
-        i += 1;
+    for entry in row {
+        ok &= J::fits(*entry);
     }
     ok
 }
 
-fn first_bad_spin(spins: &[i8]) -> Verdict
-    ensures { result ≡ need_each is_spin Spin 0 spins.now }
+fn first_unfit<J: Judged>(row: &[J::Entry]) -> Result<(), Refusal>
+    ensures { result ≡ need_each J.fits J.refusal 0 row.now }
 {
-    let mut i = 0;
-    while i < spins.len() {
-        if !is_spin(spins[i]) {
-            return Verdict::Refuse(Refusal::Spin(i));
+    for (place, entry) in row.iter().enumerate() {
+        if !J::fits(*entry) {
+            return Err(J::refusal(place));
         }
-        i += 1;
     }
-    Verdict::Accept
+    Ok(())
 }
 
-// Refusal 5. The search runs only where some spin is bad.
-pub fn judge_spins(spins: &[i8]) -> Verdict
-    ensures { result ≡ need_each is_spin Spin 0 spins.now }
+// The first entry that does not fit. The search runs only where there is one.
+pub fn judge_each<J: Judged>(row: &[J::Entry]) -> Result<(), Refusal>
+    ensures { result ≡ need_each J.fits J.refusal 0 row.now }
 {
-    if all_spins(spins) {
-        Verdict::Accept
+    if all_fit::<J>(row) {
+        Ok(())
     } else {
-        first_bad_spin(spins)
+        first_unfit::<J>(row)
     }
 }
 
@@ -113,12 +168,5 @@ pub fn judge_spins(spins: &[i8]) -> Verdict
 pub fn thresholds_ok(thresholds: &[u64]) -> bool
     ensures { result ≡ thresholds_ok thresholds.now }
 {
-    let mut i = 0;
-    while i < thresholds.len() {
-        if 4611686018427387904 < thresholds[i] {
-            return false;
-        }
-        i += 1;
-    }
-    true
+    thresholds.iter().all(|t| *t <= 4611686018427387904)
 }

@@ -1,5 +1,6 @@
 -- xoshiro256** as Blackman and Vigna publish it, over natural numbers.
-use Rattle.std.specs.Prelude.{ℕ, ◌-◌, ◌*◌, ◌/◌, ◌%◌, ◌^◌, Bool, ◌&&◌, ◌==◌, bit_or, bit_xor}
+use Rattle.std.specs.Prelude.{ℕ, ◌-◌, ◌*◌, ◌/◌, ◌%◌, ◌^◌, Bool, ◌&&◌, ◌==◌, bit_or, bit_xor, List, ◌∷◌, ◌++◌}
+use Rattle.std.specs.Fmt.{decimal}
 use Rattle.generator.specs.declared.Xoshiro256StarStar.{Xoshiro256StarStar}
 
 -- the lowest 64 bits of a number
@@ -33,3 +34,7 @@ heads_of g = output g / 2 ^ 63 == 0
 -- all four words are zero
 abbrev pub dead : Xoshiro256StarStar → Bool
 dead g = g.s0 == 0 && g.s1 == 0 && g.s2 == 0 && g.s3 == 0
+
+-- the four words in decimal, with a space between
+abbrev pub shown : Xoshiro256StarStar → List ℕ
+shown g = decimal g.s0 ++ (32 ∷ decimal g.s1 ++ (32 ∷ decimal g.s2 ++ (32 ∷ decimal g.s3)))

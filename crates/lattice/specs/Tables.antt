@@ -1,9 +1,7 @@
 -- The call that fills the neighbour tables: its verdict, and everything that it leaves.
-use Rattle.std.specs.Prelude.{ℕ, ◌*◌, ◌&&◌, List, [], ◌∷◌, length, eqb}
-use Rattle.domain.specs.declared.Verdict.{Verdict}
-use Rattle.domain.specs.declared.Verdict.TheVariants.{Accept, Refuse}
+use Rattle.std.specs.Prelude.{ℕ, ◌*◌, ◌&&◌, List, [], ◌∷◌, length, eqb, Ok, Err}
 use Rattle.domain.specs.declared.Refusal.TheVariants.{Shape, Length}
-use Rattle.domain.specs.Refusals.{Reply, reply_of, need, checks}
+use Rattle.domain.specs.Refusals.{Verdict, Reply, reply_of, need, checks}
 use Rattle.lattice.specs.Lattice.{sites, in_domain, fwd_table, bwd_table}
 
 -- the checks in order, by the lengths of the two tables
@@ -38,8 +36,8 @@ left v up down = record { reply = reply_of v; forward = up; backward = down }
 -- accepted, both tables are filled; refused, both are as lent
 unfoldable pub settled : Given → Verdict → Outcome
 unfolding fwd_table bwd_table
-settled g Accept = left Accept (fwd_table g.extents) (bwd_table g.extents)
-settled g (Refuse r) = left (Refuse r) g.forward g.backward
+settled g (Ok tt) = left (Ok tt) (fwd_table g.extents) (bwd_table g.extents)
+settled g (Err r) = left (Err r) g.forward g.backward
 
 unfoldable pub outcome : Given → Outcome
 unfolding judge settled

@@ -1,15 +1,20 @@
 // The periodic lattice: a shape's check, the neighbours of a site, and the tables of them.
 #![tactic(auto)]
 
-ghost use Rattle.std.specs.Prelude.{◌≡◌, true, ◌+◌, ◌*◌, ◌%◌, ◌≤◌, ◌<◌, length, set};
-ghost use Rattle.lattice.specs.Lattice.{extent, sites, in_range, ahead, behind, fwd, bwd, in_domain, fwd_table, bwd_table};
+mod lattice;
+mod place;
+
+ghost use Rattle.std.specs.Prelude.{◌≡◌, true, ◌+◌, ◌*◌, ◌≤◌, ◌<◌, length, set, take};
+ghost use Rattle.lattice.specs.Lattice.{extent, in_range, ahead, behind, in_domain, fwd_table, bwd_table};
 ghost use Rattle.domain.specs.Promise.{Promised};
 ghost use Rattle.lattice.specs.Tables.{given, left, outcome};
-ghost use Rattle.lattice.specs.Shape.{OnAxis, shape_for, extents_of, Good, rests_for};
+ghost use Rattle.lattice.specs.Shape.{shape_for, extents_of, rests_for};
 
-use domain::{Refusal, Verdict};
+use domain::Refusal;
+pub use lattice::Lattice;
+pub use place::Place;
 
-// A shape in the domain: past the last axis, extents and strides are 1.
+// A shape in the domain: past the last axis, extents and strides are 1. Two arrays, as `shape_for` and `extents_of` speak of two lists.
 #[derive(Clone, Copy)]
 pub struct Shape {
     pub axes: usize,
@@ -22,24 +27,14 @@ pub struct Shape {
 fn extent_at(extents: &[usize], d: usize) -> usize
     ensures { result ≡ extent extents.now d }
 {
-    if d < extents.len() { extents[d] } else { 1 }
+    extents.get(d).copied().unwrap_or(1)
 }
 
 // Whether each extent is 1 to 4,096.
 fn ranged(extents: &[usize]) -> bool
     ensures { result ≡ in_range extents.now }
 {
-    let mut i = 0;
-    while i < extents.len() {
-        if extents[i] < 1 {
-            return false;
-        }
-        if 4096 < extents[i] {
-            return false;
-        }
-        i += 1;
-    }
-    true
+    extents.iter().all(|e| 1 <= *e && *e <= 4096)
 }
 
 // The shape of at most four extents in range: at most 2^48 sites, so that no product wraps.
@@ -66,130 +61,63 @@ pub fn shape_of(extents: &[usize]) -> Shape
 pub fn in_domain(extents: &[usize]) -> bool
     ensures { result ≡ in_domain extents.now }
 {
-    if extents.len() < 1 {
-        return false;
-    }
-    if 4 < extents.len() {
-        return false;
-    }
-    if ranged(extents) {
-        shape_of(extents).sites <= 16777216
-    } else {
-        false
-    }
+    1 <= extents.len()
+        && extents.len() <= 4
+        && ranged(extents)
+        && shape_of(extents).sites <= 16777216
 }
 
-// The forward neighbour on an axis, from the site's rest in its block of extent * stride sites. No division.
-pub fn ahead_from(extent: usize, stride: usize, site: usize, rest: usize) -> usize
-    requires { OnAxis extent stride site rest }
-    ensures { result ≡ ahead extent stride site }
+// Both neighbours of a place, into entry k of the tables.
+fn put_entry(place: Place, k: usize, up: &mut [u32], down: &mut [u32])
+    requires { (k < length up.old) × (k < length down.old) }
+    ensures up_after { up.new ≡ set up.old k (ahead place.extent place.stride place.site) }
+    ensures down_after { down.new ≡ set down.old k (behind place.extent place.stride place.site) }
 {
-    let block = extent * stride;
-    if rest + stride < block {
-        site + stride
-    } else {
-        site + stride - block
-    }
+    up[k] = place.ahead() as u32;
+    down[k] = place.behind() as u32;
 }
 
-pub fn behind_from(extent: usize, stride: usize, site: usize, rest: usize) -> usize
-    requires { OnAxis extent stride site rest }
-    ensures { result ≡ behind extent stride site }
+// The entries of one site, axis after axis: those of the sites before it stand.
+fn fill_site(lattice: &Lattice, site: usize, rests: &[usize; 4], up: &mut [u32], down: &mut [u32])
+    requires site_lt_sites { site < lattice.now.shape.sites }
+    requires rests_value { rests.now ≡ rests_for (extents_of lattice.now.shape) site }
+    requires up_len { length up.old ≡ lattice.now.shape.sites * lattice.now.shape.axes }
+    requires down_len { length down.old ≡ lattice.now.shape.sites * lattice.now.shape.axes }
+    requires up_before { take (site * lattice.now.shape.axes) up.old ≡ take (site * lattice.now.shape.axes) (fwd_table (extents_of lattice.now.shape)) }
+    requires down_before { take (site * lattice.now.shape.axes) down.old ≡ take (site * lattice.now.shape.axes) (bwd_table (extents_of lattice.now.shape)) }
+    ensures up_after { take ((site + 1) * lattice.now.shape.axes) up.new ≡ take ((site + 1) * lattice.now.shape.axes) (fwd_table (extents_of lattice.now.shape)) }
+    ensures down_after { take ((site + 1) * lattice.now.shape.axes) down.new ≡ take ((site + 1) * lattice.now.shape.axes) (bwd_table (extents_of lattice.now.shape)) }
 {
-    if stride <= rest {
-        site - stride
-    } else {
-        site + extent * stride - stride
+    let first = site * lattice.shape.axes;
+    for axis in 0..lattice.shape.axes {
+        put_entry(lattice.place(axis, site, rests), first + axis, up, down);
     }
 }
 
-// The rest of the next site, from that of this one.
-pub fn rest_next(extent: usize, stride: usize, site: usize, rest: usize) -> usize
-    requires { OnAxis extent stride site rest }
-    ensures { result ≡ (site + 1) % (extent * stride) }
+// The tables, site after site. The rests go along with the site, so that nothing is divided.
+fn fill(lattice: &Lattice, up: &mut [u32], down: &mut [u32])
+    requires up_len { length up.old ≡ lattice.now.shape.sites * lattice.now.shape.axes }
+    requires down_len { length down.old ≡ lattice.now.shape.sites * lattice.now.shape.axes }
+    ensures up_after { up.new ≡ fwd_table (extents_of lattice.now.shape) }
+    ensures down_after { down.new ≡ bwd_table (extents_of lattice.now.shape) }
 {
-    let next = rest + 1;
-    if next < extent * stride { next } else { 0 }
-}
-
-// The rests of the next site, from those of this one: one for each of the four axes.
-pub fn next_rests(shape: Shape, site: usize, rests: [usize; 4]) -> [usize; 4]
-    requires good { Good shape }
-    requires site_lt_sites { site < shape.sites }
-    requires rests_value { rests ≡ rests_for (extents_of shape) site }
-    ensures { result ≡ rests_for (extents_of shape) (site + 1) }
-{
-    let e = shape.extents;
-    let s = shape.strides;
-    let r0 = rest_next(e[0], s[0], site, rests[0]);
-    let r1 = rest_next(e[1], s[1], site, rests[1]);
-    let r2 = rest_next(e[2], s[2], site, rests[2]);
-    let r3 = rest_next(e[3], s[3], site, rests[3]);
-    [r0, r1, r2, r3]
-}
-
-// Both neighbours of a site on an axis, into entry k of the tables.
-fn put_entry(
-    extent: usize,
-    stride: usize,
-    site: usize,
-    rest: usize,
-    k: usize,
-    up: &mut [u32],
-    down: &mut [u32],
-)
-    requires on_axis { OnAxis extent stride site rest }
-    requires k_in_bounds { (k < length up.old) × (k < length down.old) }
-    ensures up_after { up.new ≡ set up.old k (ahead extent stride site) }
-    ensures down_after { down.new ≡ set down.old k (behind extent stride site) }
-{
-    up[k] = ahead_from(extent, stride, site, rest) as u32;
-    down[k] = behind_from(extent, stride, site, rest) as u32;
-}
-
-// The tables, entry after entry. The rests go along with the site, so that nothing is divided.
-fn fill(shape: Shape, up: &mut [u32], down: &mut [u32])
-    requires good { Good shape }
-    requires up_len { length up.old ≡ shape.sites * shape.axes }
-    requires down_len { length down.old ≡ shape.sites * shape.axes }
-    ensures up_after { up.new ≡ fwd_table (extents_of shape) }
-    ensures down_after { down.new ≡ bwd_table (extents_of shape) }
-{
-    let m = shape.axes;
-    let extents = shape.extents;
-    let strides = shape.strides;
     let mut rests = [0usize; 4];
-    let mut k: usize = 0;
-    let mut site: usize = 0;
-    let mut axis: usize = 0;
-    while k < up.len() {
-        put_entry(extents[axis], strides[axis], site, rests[axis], k, up, down);
-        k += 1;
-        axis += 1;
-        if axis == m {
-            rests = next_rests(shape, site, rests);
-            axis = 0;
-            site += 1;
-        }
+    for site in 0..lattice.shape.sites {
+        fill_site(lattice, site, &rests, up, down);
+        let next = lattice.next_rests(site, &rests);
+        rests = next;
     }
 }
 
 // The neighbours of each site, forward into `up` and backward into `down`, at site * axes + axis.
-pub fn tables(extents: &[usize], up: &mut [u32], down: &mut [u32]) -> Verdict
+pub fn tables(extents: &[usize], up: &mut [u32], down: &mut [u32]) -> Result<(), Refusal>
     ensures { Promised outcome (given extents.now up.old down.old) (left result up.new down.new) }
 {
-    if in_domain(extents) {
-        let shape = shape_of(extents);
-        let total = shape.sites * shape.axes;
-        if up.len() != total {
-            return Verdict::Refuse(Refusal::Length);
-        }
-        if down.len() != total {
-            return Verdict::Refuse(Refusal::Length);
-        }
-        fill(shape, up, down);
-        Verdict::Accept
-    } else {
-        Verdict::Refuse(Refusal::Shape)
+    let lattice = Lattice::new(extents)?;
+    let total = lattice.shape.sites * lattice.shape.axes;
+    if up.len() != total || down.len() != total {
+        return Err(Refusal::Length);
     }
+    fill(&lattice, up, down);
+    Ok(())
 }

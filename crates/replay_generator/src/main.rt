@@ -12,10 +12,9 @@ fn main(rt: HostRuntime) -> io::Result<()> {
         s3: 4,
     };
     for _ in 0..10 {
-        let out = state.next();
-        let value = out.value;
+        let (value, next) = state.next();
         println!(rt; "{value}")?;
-        state = out.state;
+        state = next;
     }
     Ok(())
 }

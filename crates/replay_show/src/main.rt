@@ -6,12 +6,12 @@ use generator::Xoshiro256StarStar;
 use std::io;
 
 fn rows(rt: &impl Print) -> io::Result<()> {
-    show::label(rt, b"spins ")?;
+    print!(rt; "spins ")?;
     show::spins(rt, &[1, -1, 0, -128, 127])?;
-    show::bytes(rt, &[0, 1, 255])?;
-    show::words(rt, &[0, 4294967295])?;
-    show::longs(rt, &[0, 18446744073709551615])?;
-    show::wides(rt, &[-9223372036854775808, 0, 9223372036854775807])
+    show::row(rt, &[0u8, 1, 255])?;
+    show::row(rt, &[0u32, 4294967295])?;
+    show::row(rt, &[0u64, 18446744073709551615])?;
+    show::row(rt, &[-9223372036854775808i64, 0, 9223372036854775807])
 }
 
 fn answers(rt: &impl Print) -> io::Result<()> {
@@ -21,12 +21,10 @@ fn answers(rt: &impl Print) -> io::Result<()> {
         s2: 3,
         s3: 4,
     };
-    show::state(rt, generator)?;
-    show::refusal(rt, Refusal::Length)?;
-    show::refusal(rt, Refusal::Coupling(7))?;
-    show::number(rt, 3)?;
-    show::signed(rt, -4)?;
-    show::label(rt, b"\n")
+    println!(rt; "{generator}")?;
+    rt.println(Refusal::Length)?;
+    rt.println(Refusal::Coupling(7))?;
+    println!(rt; "{}{}", 3, -4)
 }
 
 fn main(rt: HostRuntime) -> io::Result<()> {

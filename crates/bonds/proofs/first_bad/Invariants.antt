@@ -1,5 +1,5 @@
 -- The invariants: the first bad bond is the first from this site on, and from this direction of it on.
-use Rattle.std.proofs.Common.{◌≡◌, ◌+◌, ◌*◌, ◌≤◌, ◌-◌}
+use Rattle.std.proofs.Common.{◌≡◌, ◌+◌, ◌*◌}
 use Rattle.domain.specs.declared.Refusal.TheVariants.{Coupling}
 use Rattle.domain.specs.Refusals.{need_each}
 use Rattle.bonds.proofs.Laws.{fair}
@@ -7,13 +7,11 @@ use Rattle.domain.specs.Each.{each_from}
 use Rattle.bonds.proofs.first_bad.Given as goal
 
 abbrev pub invariant-loop-d : goal.invariant-loop-d
-invariant-loop-d l = (l.d ≤ l.axes) × (need_each (fair l.weights l.thresholds) Coupling 0 l.couplings ≡ each_from (fair l.weights l.thresholds) Coupling l.couplings (l.site * l.axes + l.d))
+invariant-loop-d l =
+    let ok = fair l.classes.weights.now l.classes.thresholds.now in
+    need_each ok Coupling 0 l.couplings ≡ each_from ok Coupling l.couplings (l.site * l.axes + l.d)
 
-abbrev pub decreases-loop-d : goal.decreases-loop-d
-decreases-loop-d l = l.axes - l.d
-
-abbrev pub invariant-search : goal.invariant-search
-invariant-search l = (l.site ≤ l.sites) × (need_each (fair l.weights l.thresholds) Coupling 0 l.couplings ≡ each_from (fair l.weights l.thresholds) Coupling l.couplings (l.site * l.axes))
-
-abbrev pub decreases-search : goal.decreases-search
-decreases-search l = l.sites - l.site
+abbrev pub invariant-loop-site : goal.invariant-loop-site
+invariant-loop-site l =
+    let ok = fair l.classes.weights.now l.classes.thresholds.now in
+    need_each ok Coupling 0 l.couplings ≡ each_from ok Coupling l.couplings (l.site * l.axes)

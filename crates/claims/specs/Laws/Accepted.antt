@@ -1,12 +1,10 @@
 -- What an accepted call has passed, and what it leaves.
-use Rattle.std.specs.Prelude.{◌≡◌, ℕ, true, length}
+use Rattle.std.specs.Prelude.{◌≡◌, ℕ, true, length, Ok, Err}
 use Rattle.std.proofs.Math.Path.{refl, ap}
 use Rattle.std.proofs.Common.{sym, ◌∙◌, arith}
 use Rattle.std.proofs.Math.Bool.{and-eq-true_iff}
 use borrow.Author.Tests.{eqb-true}
-use Rattle.domain.specs.declared.Verdict.{Verdict}
-use Rattle.domain.specs.declared.Verdict.TheVariants.{Accept, Refuse}
-use Rattle.domain.specs.Refusals.{done, refused, Passed, Held}
+use Rattle.domain.specs.Refusals.{Verdict, done, refused, Passed, Held}
 use Rattle.domain.proofs.Laws.{passed, held, needed}
 use Rattle.lattice.specs.Lattice.{in_domain}
 use Rattle.bonds.specs.Classes.{classes_ok}
@@ -14,7 +12,8 @@ use Rattle.clusters.specs.Call.{Call, Lent, size, bonds, lengths_ok, asked, judg
 use Rattle.graph.specs.Forest.{forest}
 use Rattle.clusters.specs.declared.Action.TheVariants.{Observe}
 use Rattle.clusters.specs.Observation.{observation}
-use Rattle.clusters.specs.Update.{Seen, Outcome, drawn, active, ended, outcome, settled, accepted}
+use Rattle.clusters.specs.declared.Seen.{Seen}
+use Rattle.clusters.specs.Update.{Outcome, drawn, active, ended, outcome, settled, accepted}
 use Rattle.claims.specs.Terms.{Ran}
 
 -- a reply of one form is not of the other, and has one content
@@ -24,7 +23,7 @@ never n p e = let z : ◌≡◌ {A = ℕ} 0 1 = cc in omega arith
 one-done : {A : Type 0} {a b : A} → done a ≡ done b → a ≡ b
 one-done e = cc
 
-module _ (c : Call) (l : Lent) (ok : judge c l ≡ Accept) where
+module _ (c : Call) (l : Lent) (ok : judge c l ≡ (Ok tt)) where
   all : Passed (asked c l)
   unfolding judge
   all = passed (asked c l) ok
@@ -54,12 +53,12 @@ module _ (c : Call) (l : Lent) (ok : judge c l ≡ Accept) where
 
 -- an answer of `done` is given by an accepted call alone, and carries the observation of its active bonds
 module _ (c : Call) (l : Lent) (o : Outcome) (s : Seen) (ran : Ran c l o s) where
-  judged : (v : Verdict) → judge c l ≡ v → (settled c l v).reply ≡ done s → judge c l ≡ Accept
+  judged : (v : Verdict) → judge c l ≡ v → (settled c l v).reply ≡ done s → judge c l ≡ (Ok tt)
   unfolding settled
-  judged Accept e t = e
-  judged (Refuse r) e t = absurd (never _ _ t)
+  judged (Ok tt) e t = e
+  judged (Err r) e t = absurd (never _ _ t)
 
-  pub ok : judge c l ≡ Accept
+  pub ok : judge c l ≡ (Ok tt)
   unfolding outcome
   ok = judged (judge c l) refl (sym (ap (λ (x : Outcome). x.reply) ran.promised) ∙ ran.answered)
 

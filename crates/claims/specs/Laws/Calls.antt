@@ -12,7 +12,8 @@ use Rattle.graph.proofs.Laws.Roots.{sound-forest}
 use Rattle.clusters.specs.declared.Action.TheVariants.{Update}
 use Rattle.clusters.specs.Call.{Call, Lent, size, bonds}
 use Rattle.clusters.specs.Observation.{winding_of}
-use Rattle.clusters.specs.Update.{Seen, Outcome, Coins, drawn, active, coins, turned, ended, accepted}
+use Rattle.clusters.specs.declared.Seen.{Seen}
+use Rattle.clusters.specs.Update.{Outcome, Coins, drawn, active, coins, turned, ended, accepted}
 use Rattle.claims.specs.Terms.{Ran, Wound, root_in, raise}
 use Rattle.claims.specs.Laws.Accepted.{in-domain, one-length, ok, leaves}
 use Rattle.clusters.proofs.Laws.Places.{within, one-step}

@@ -1,5 +1,5 @@
 -- The active bonds that step 1 draws: which they are, how many, and how they grow with the thresholds.
-use Rattle.std.specs.Prelude.{◌≡◌, Bool, true, false, cond, length, get_or, Float}
+use Rattle.std.specs.Prelude.{◌≡◌, Bool, true, false, cond, length, get_or, Float, Some}
 use Rattle.std.proofs.Math.Path.{refl, ap, ap₂}
 use Rattle.std.proofs.Common.{sym, ◌∙◌, not-suc-le-zero, arith, ltb-true, lt-ltb}
 use Rattle.std.proofs.lemmas.Bool.{false≢true}
@@ -13,7 +13,6 @@ use Rattle.generator.specs.declared.Xoshiro256StarStar.{Xoshiro256StarStar}
 use Rattle.generator.specs.Xoshiro.{draw_of}
 use Rattle.bonds.specs.declared.BondState.{BondState}
 use Rattle.bonds.specs.declared.BondState.TheVariants.{Idle, Pull}
-use Rattle.bonds.specs.declared.Lookup.TheVariants.{In}
 use Rattle.bonds.specs.Classes.{lookup}
 use Rattle.bonds.specs.Activation.{threshold_of, activation_of}
 use Rattle.graph.specs.Forest.{Bond}
@@ -59,8 +58,8 @@ threshold-le w (x ∷ ws) (t ∷ ts) [] e h = absurd (omega arith)
 threshold-le w (x ∷ ws) (t ∷ ts) (u ∷ us) e h = go (eq x w) (threshold-le w ws ts us (omega arith) (λ i. h (suc i)))
   where
     go : (b : Bool) → threshold_of (lookup w ws ts) ≤ threshold_of (lookup w ws us)
-        → threshold_of (cond b (In (record { weight = x; threshold = t })) (lookup w ws ts))
-        ≤ threshold_of (cond b (In (record { weight = x; threshold = u })) (lookup w ws us))
+        → threshold_of (cond b (Some (record { weight = x; threshold = t })) (lookup w ws ts))
+        ≤ threshold_of (cond b (Some (record { weight = x; threshold = u })) (lookup w ws us))
     go true rest = h 0
     go false rest = rest
 

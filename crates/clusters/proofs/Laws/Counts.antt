@@ -4,6 +4,8 @@ use Rattle.std.proofs.Common.{zero-le, zero-add, add-zero, add-one, arith, sym, 
 use Rattle.std.proofs.Math.Decide.{ℕ_discrete}
 use Rattle.std.proofs.lemmas.List.{length-replicate, get_or-replicate}
 use Rattle.std.proofs.lemmas.Bool.{lt-leb}
+use Rattle.std.specs.List.{count_by}
+use Rattle.std.proofs.lemmas.List.Recursion.{is_count_by}
 use Rattle.graph.specs.Forest.{count, filled, Forest, sizes}
 use Rattle.graph.proofs.Laws.Counts.{count-bound, length-sizes, get_or-sizes}
 use Rattle.clusters.specs.Sizes.{at_least}
@@ -92,6 +94,7 @@ at_least-le t (c ∷ cs) = go (leb t c) (at_least-le t cs)
     go true h = omega arith
     go false h = omega arith
 
+-- how many are t or more, counted at the place i
 pub record Reached (t : ℕ) (l : List ℕ) (k i : ℕ) : Type 0 where
   pub inside : i ≤ length l
   pub at : k + at_least t (drop i l) ≡ at_least t l
@@ -109,6 +112,15 @@ unfolding at_least
 reached-all {t} {l} {k} {i} w le =
     let a : k + 0 ≡ at_least t l = rw (drop_of_length-le l {i = i} le) at w.at in
     omega arith
+
+-- the entries that are t or more, counted
+pub at_least-counts : (t : ℕ) (l : List ℕ) → at_least t l ≡ count_by (leb t) l
+unfolding at_least
+at_least-counts t = is_count_by (at_least t) (leb t) refl (λ x xs. go (leb t x) (at_least t xs))
+  where
+    go : (b : Bool) (n : ℕ) → cond b 1 0 + n ≡ cond b (1 + n) n
+    go true n = refl
+    go false n = zero-add n
 
 -- the components are the counts that are 1 or more
 pub filled_is : (l : List ℕ) → filled l ≡ at_least 1 l

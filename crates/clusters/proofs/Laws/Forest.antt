@@ -4,7 +4,9 @@ use Rattle.std.proofs.Common.{arith, sym, ap, ◌∙◌, inr, ⊎_elim, below_mo
 use Rattle.std.proofs.Math.Decide.{ℕ_discrete}
 use Rattle.std.proofs.lemmas.List.{set-get_or}
 use Rattle.graph.specs.Forest.{Forest}
-use Rattle.clusters.specs.Inside.Rep.{Site, Rep, Kept, Higher, Valid, Climbed, Settled, Flattened}
+use Rattle.clusters.specs.declared.links.Links.{Links}
+use Rattle.clusters.specs.Inside.Rep.{Site, Rep, Holds, Kept, Moved, Higher, Valid, Climbed, Settled, Flattened}
+use Rattle.clusters.proofs.Laws.Joining.{rank-lt}
 use Rattle.domain.specs.Cases.{by-dec}
 
 -- a site whose link is another site: the link is higher, and may be moved to any higher site
@@ -55,7 +57,7 @@ higher-root x r lt ne =
 pub kept-none : {f : Forest} {parent rank : List ℕ} → Rep parent rank f → Kept f parent rank parent
 kept-none r = record { rep = r; flat = λ k e. e }
 
-pub kept_on : {f : Forest} {before rank after after' : List ℕ} → Kept f before rank after → Kept f after rank after' → Kept f before rank after'
+pub kept_on : {f : Forest} {before rank after rank' after' : List ℕ} → Kept f before rank after → Kept f after rank' after' → Kept f before rank' after'
 kept_on a b = record { rep = b.rep; flat = λ k e. b.flat k (a.flat k e) }
 
 -- x, no root, is linked to g, a higher site: to its root where it linked to its root
@@ -95,43 +97,52 @@ settled {parent} x q r lt e = (
       (site-at x r lt).up,
 )
 
--- the measure of a walk: a rank is a byte
+-- where a rank is a byte, what is left to 256 falls with each link
 pub falls : {parent rank : List ℕ} {f : Forest} (x g : ℕ) → Rep parent rank f → Higher f x g → get_or rank x 0 < 256
     → 256 - get_or rank g 0 < 256 - get_or rank x 0
 falls {rank = rank} x g r h b = let a : get_or rank x 0 < get_or rank g 0 = rw r.ranks h.up in omega arith
 
--- a walk from x, over links as they were in parent₀, has come to z, over links as they are in parent
-pub record Walked (parent₀ rank : List ℕ) (x : ℕ) (parent : List ℕ) (z : ℕ) : Type 0 where
-  pub inside : z < length parent
-  pub sized : length parent ≡ length parent₀
-  pub keeps : (f : Forest) → Rep parent₀ rank f → (get_or f.roots z 0 ≡ get_or f.roots x 0) × Kept f parent₀ rank parent
+-- the measure of a walk: a rank is below the number of sites
+pub climbs : {parent rank parent' rank' : List ℕ} {f : Forest} (x g : ℕ) → Rep parent rank f → Rep parent' rank' f → x < length parent → Higher f x g
+    → length parent' - get_or rank' g 0 < length parent - get_or rank x 0
+climbs {parent} {rank} {parent'} {rank'} {f} x g r r' lt h =
+    let a : get_or rank x 0 < get_or rank' g 0 = rw (r.ranks, r'.ranks) h.up in
+    let b : get_or rank' g 0 < length f.roots = rw r'.ranks (rank-lt g r.grown h.inside) in
+    omega (arith, r.links, r'.links)
 
-pub walk-on : {parent₀ rank : List ℕ} {x : ℕ} {parent : List ℕ} {z : ℕ} (parent' : List ℕ) (g : ℕ) → Valid parent₀ rank → Walked parent₀ rank x parent z
-    → Climbed parent rank parent' z g → length parent' ≡ length parent → Walked parent₀ rank x parent' g
-walk-on parent' g v w k l = record {
+-- a walk from x, over links as they were in l₀, has come to z, over links as they are in l
+pub record Walked (l₀ : Links) (x : ℕ) (l : Links) (z : ℕ) : Type 0 where
+  pub inside : z < length l.parent.now
+  pub keeps : (f : Forest) → Holds l₀ f → (get_or f.roots z 0 ≡ get_or f.roots x 0) × Moved f l₀ l
+
+pub walk-on : {l₀ l : Links} {x z : ℕ} (l' : Links) (g : ℕ) → Valid l₀ → Walked l₀ x l z → Climbed l l' z g → Walked l₀ x l' g
+walk-on l' g v w k = record {
   inside = let u = k v.0 (w.keeps v.0 v.1).1.rep in rw u.1.rep.links u.0.inside;
-  sized = l ∙ w.sized;
   keeps = λ f r. let b = w.keeps f r in let u = k f b.1.rep in (u.0.same ∙ b.0, kept_on b.1 u.1);
 }
 
 -- every site below i links to its root
-pub record Settling (parent₀ rank parent : List ℕ) (i : ℕ) : Type 0 where
-  pub inside : i ≤ length parent
-  pub sized : length parent ≡ length parent₀
-  pub keeps : (f : Forest) → Rep parent₀ rank f → Rep parent rank f × ((k : ℕ) → k < i → get_or parent k 0 ≡ get_or f.roots k 0)
+pub record Settling (l₀ l : Links) (i : ℕ) : Type 0 where
+  pub inside : i ≤ length l.parent.now
+  pub sized : length l.parent.now ≡ length l₀.parent.now
+  pub keeps : (f : Forest) → Holds l₀ f → Holds l f × ((k : ℕ) → k < i → get_or l.parent.now k 0 ≡ get_or f.roots k 0)
 
-pub settle-on : {parent₀ rank parent : List ℕ} {i : ℕ} (parent' : List ℕ) → Settling parent₀ rank parent i → i < length parent
-    → Settled parent rank parent' i → length parent' ≡ length parent → Settling parent₀ rank parent' (i + 1)
-settle-on {i = i} parent' s lt t l = record {
-  inside = rw l (omega arith);
-  sized = l ∙ s.sized;
+pub settle-on : {l₀ l : Links} {i : ℕ} (l' : Links) → Settling l₀ l i → i < length l.parent.now → Settled l l' i
+    → length l'.parent.now ≡ length l.parent.now → Settling l₀ l' (i + 1)
+settle-on {i = i} l' s lt t e = record {
+  inside = rw e (omega arith);
+  sized = e ∙ s.sized;
   keeps = λ f r.
       let a = s.keeps f r in
       let b = t f a.0 in
       (b.1.rep, below_more _ i (λ k h. b.1.flat k (a.1 k h)) b.0);
 }
 
-pub all_settled : {parent₀ rank parent : List ℕ} {i : ℕ} → Settling parent₀ rank parent i → length parent ≤ i → Flattened parent₀ rank parent
-all_settled {parent = parent} s le f r =
+-- a slice that holds a forest after a step is as long as before
+pub settled-length : {l₀ l : Links} (l' : Links) {i : ℕ} → Valid l₀ → Settling l₀ l i → Settled l l' i → length l'.parent.now ≡ length l.parent.now
+settled-length l' v s t = let a = s.keeps v.0 v.1 in (t v.0 a.0).1.rep.links ∙ sym a.0.links
+
+pub all_settled : {l₀ l : Links} {i : ℕ} → Settling l₀ l i → length l.parent.now ≤ i → Flattened l₀ l
+all_settled {l = l} s le f r =
     let a = s.keeps f r in
-    ext_get_or 0 parent f.roots a.0.links (λ k h. a.1 k (omega arith))
+    (ext_get_or 0 l.parent.now f.roots a.0.links (λ k h. a.1 k (omega arith)), a.0.ranks)

@@ -1,6 +1,7 @@
 -- Laws of the definition: joins keep a forest grown, and a rank stays small.
-use Rattle.std.specs.Prelude.{ℕ, ◌+◌, ◌^◌, ◌<◌, ◌≤◌, ◌≡◌, List, length, get_or}
+use Rattle.std.specs.Prelude.{ℕ, zero, suc, refl, ◌+◌, ◌^◌, ◌<◌, ◌≤◌, ◌≡◌, List, length, get_or}
 use Rattle.std.proofs.Common.{arith, sym, ◌∙◌, pow_mono}
+use Rattle.std.proofs.Math.Nat.{pow-succ'}
 use Rattle.std.proofs.Math.Decide.{ℕ_discrete, dec_lt}
 use Rattle.graph.specs.Forest.{Forest, relabel, count}
 use Rattle.graph.proofs.Laws.Lookup.{length-relabel, relabel-hit, relabel-miss}
@@ -93,3 +94,17 @@ rank_below k {f} i g lt e small =
     let d = count-bound i f.roots in
     let m : 2 ^ k ≤ 2 ^ get_or f.ranks i 0 = pow_mono (omega arith) in
     absurd (omega arith))
+
+lt-pow2 : (k : ℕ) → k < 2 ^ k
+lt-pow2 zero = omega arith
+lt-pow2 (suc k) = omega (arith, lt-pow2 k, pow-succ' 2 k)
+
+-- and so below the number of sites
+pub rank-lt : {f : Forest} (i : ℕ) → Grown f → i < length f.roots → get_or f.ranks i 0 < length f.roots
+rank-lt {f} i g lt =
+    let n = g.inside i lt in
+    let b = g.big (get_or f.roots i 0) n (g.rooted i lt) in
+    let d = count-bound (get_or f.roots i 0) f.roots in
+    let m = lt-pow2 (get_or f.ranks (get_or f.roots i 0) 0) in
+    by-dec (ℕ_discrete (get_or f.roots i 0) i) (λ e. let h : get_or f.ranks i 0 ≡ get_or f.ranks (get_or f.roots i 0) 0 = rw e refl in omega arith)
+    (λ ne. let t = g.tall i lt ne in omega arith)

@@ -9,9 +9,9 @@ use Rattle.lattice.proofs.Laws.Shape.{rests-zero}
 use Rattle.clusters.specs.Inside.Sway.{bond}
 use Rattle.clusters.specs.declared.Action.{Action}
 use Rattle.clusters.specs.Update.{bond_at, drawn}
-use Rattle.clusters.specs.declared.fk.Plane.{Plane}
+use Rattle.clusters.specs.declared.winding.Marks.{Marks}
 use Rattle.clusters.specs.declared.fk.Pass.{Pass}
-use Rattle.clusters.specs.Inside.Run.{Lists, Given, call_of, origin, Stands, Visit, Visitable, Visited, SiteAt, SiteReady, SiteDone, Start, Done}
+use Rattle.clusters.specs.Inside.Run.{Plane, Lists, Given, call_of, origin, Stands, Visit, Visitable, Visited, SiteAt, SiteReady, SiteDone, Start, Done}
 
 -- the bond of a site and a direction
 pub place_of : (sh : List ℕ) (site to axis : ℕ) → axis < length sh → to ≡ fwd sh site axis → bond_at sh (site * length sh + axis) ≡ bond site to axis
@@ -28,22 +28,32 @@ pub record Sized (l₀ l : Lists) : Type 0 where
   pub ranks : length l.ranks ≡ length l₀.ranks
   pub offsets : length l.offsets ≡ length l₀.offsets
 
+pub sized_none : (l : Lists) → Sized l l
+sized_none l = record { roots = refl; decisions = refl; parents = refl; ranks = refl; offsets = refl }
+
+pub sized_on : {l₀ l l' : Lists} → Sized l₀ l → Sized l l' → Sized l₀ l'
+sized_on s z = record {
+  roots = z.roots ∙ s.roots;
+  decisions = z.decisions ∙ s.decisions;
+  parents = z.parents ∙ s.parents;
+  ranks = z.ranks ∙ s.ranks;
+  offsets = z.offsets ∙ s.offsets;
+}
+
 -- within a site, after `axis` directions
 pub record Going (g : Given) (sh : List ℕ) (l₀ : Lists) (pl : Plane) (p₀ : Pass) (site : ℕ) (l : Lists) (p : Pass) (axis : ℕ) : Type 0 where
   pub inside : axis ≤ length sh
-  pub sized : Sized l₀ l
   pub keeps : (x : Xoshiro256StarStar) (a : Action) → SiteAt g (origin sh x a) l₀ pl p₀ site → Stands (call_of g (origin sh x a)) (site * length sh + axis) l p
 
 module _ (g : Given) (sh : List ℕ) (l₀ : Lists) (pl : Plane) (p₀ : Pass) (site : ℕ) where
   pub going-none : Going g sh l₀ pl p₀ site l₀ p₀ 0
   going-none = record {
     inside = omega arith;
-    sized = record { roots = refl; decisions = refl; parents = refl; ranks = refl; offsets = refl };
     keeps = λ x a s. subst (λ (b : ℕ). Stands (call_of g (origin sh x a)) b l₀ p₀) (sym (add-zero (site * length sh))) s.here;
   }
 
   module _ {l : Lists} {p : Pass} {axis : ℕ} (go : Going g sh l₀ pl p₀ site l p axis) (lt : axis < length sh) (to : ℕ) (e : to ≡ fwd sh site axis) where
-    pub visit-of : (x : Xoshiro256StarStar) (a : Action) → SiteAt g (origin sh x a) l₀ pl p₀ site → Visit g (origin sh x a) l pl p site to axis (site * length sh + axis)
+    pub visit-of : (x : Xoshiro256StarStar) (a : Action) → SiteAt g (origin sh x a) l₀ pl p₀ site → Visit g (origin sh x a) l pl p (bond site to axis) (site * length sh + axis)
     visit-of x a s = record {
       fit = s.fit;
       plane = s.plane;
@@ -54,23 +64,16 @@ module _ (g : Given) (sh : List ℕ) (l₀ : Lists) (pl : Plane) (p₀ : Pass) (
 
     -- m is the number of directions as the code has it
     module _ (m : ℕ) (em : m ≡ length sh) where
-      pub visitable : SiteReady g sh l₀ pl p₀ site → Visitable g l pl p site to axis (site * m + axis)
+      pub visitable : SiteReady g sh l₀ pl p₀ site → Visitable g l pl p (bond site to axis) (site * m + axis)
       visitable r =
-          (origin sh r.0 r.1, subst (λ (n : ℕ). Visit g (origin sh r.0 r.1) l pl p site to axis (site * n + axis)) (sym em) (visit-of r.0 r.1 r.2))
+          (origin sh r.0 r.1, subst (λ (n : ℕ). Visit g (origin sh r.0 r.1) l pl p (bond site to axis) (site * n + axis)) (sym em) (visit-of r.0 r.1 r.2))
 
-      pub going_on : {l' : Lists} (r : Pass) → Sized l l' → Visited g l l' pl p site to axis (site * m + axis) r
+      pub going_on : {l' : Lists} (r : Pass) → Visited g l l' pl p (bond site to axis) (site * m + axis) r
           → Going g sh l₀ pl p₀ site l' r (axis + 1)
-      going_on {l'} r z v = record {
+      going_on {l'} r v = record {
         inside = omega arith;
-        sized = record {
-          roots = z.roots ∙ go.sized.roots;
-          decisions = z.decisions ∙ go.sized.decisions;
-          parents = z.parents ∙ go.sized.parents;
-          ranks = z.ranks ∙ go.sized.ranks;
-          offsets = z.offsets ∙ go.sized.offsets;
-        };
         keeps = λ x a s.
-            let w : Visited g l l' pl p site to axis (site * length sh + axis) r = subst (λ (n : ℕ). Visited g l l' pl p site to axis (site * n + axis) r) em v in
+            let w : Visited g l l' pl p (bond site to axis) (site * length sh + axis) r = subst (λ (n : ℕ). Visited g l l' pl p (bond site to axis) (site * n + axis) r) em v in
             subst (λ (b : ℕ). Stands (call_of g (origin sh x a)) b l' r) (add_assoc (site * length sh) axis 1) (w (origin sh x a) (visit-of x a s));
       }
 
@@ -91,7 +94,6 @@ module _ (g : Given) (sh : List ℕ) (l₀ : Lists) (pl : Plane) (p₀ : Pass) (
 pub record Walking (g : Given) (sh : List ℕ) (l₀ : Lists) (p₀ : Pass) (l : Lists) (p : Pass) (rests : List ℕ) (site : ℕ) : Type 0 where
   pub inside : site ≤ sites sh
   pub rest : rests ≡ rests_for sh site
-  pub sized : Sized l₀ l
   pub keeps : (a : Action) → Stands (call_of g (origin sh p₀.state a)) (site * length sh) l p
 
 -- no bond yet
@@ -107,26 +109,25 @@ module _ (g : Given) (sh : List ℕ) {l₀ : Lists} {pl : Plane} (start : Start 
   walking-none x = record {
     inside = omega arith;
     rest = rests-zero sh;
-    sized = record { roots = refl; decisions = refl; parents = refl; ranks = refl; offsets = refl };
     keeps = λ a. subst (λ (b : ℕ). Stands (call_of g (origin sh x a)) b l₀ (blank x)) (sym (zero-mul (length sh))) (stands-none x a);
   }
+
+  -- with flags that are all clear
+  pub walking-clear : (x : Xoshiro256StarStar) (f : Marks) → f.x ≡ false → f.y ≡ false → f.torn ≡ false
+      → Walking g sh l₀ (record { state = x; active = 0; marks = f }) l₀ (record { state = x; active = 0; marks = f }) (0 ∷ 0 ∷ 0 ∷ 0 ∷ []) 0
+  walking-clear x f a b d =
+      let none : record { x = false; y = false; torn = false } ≡ f = λ i. record { x = sym a i; y = sym b i; torn = sym d i } in
+      subst (λ (m : Marks). Walking g sh l₀ (record { state = x; active = 0; marks = m }) l₀ (record { state = x; active = 0; marks = m }) (0 ∷ 0 ∷ 0 ∷ 0 ∷ []) 0) none (walking-none x)
 
   module _ {p₀ : Pass} {l : Lists} {p : Pass} {rests : List ℕ} {site : ℕ} (w : Walking g sh l₀ p₀ l p rests site) where
     pub site-at : site < sites sh → (a : Action) → SiteAt g (origin sh p₀.state a) l pl p site
     site-at h a = record { fit = start.fit; plane = start.plane; inside = h; here = w.keeps a }
 
-    pub walking_on : site < sites sh → {l' : Lists} (r : Pass) {rests' : List ℕ} → Sized l l' → SiteDone g sh l l' pl p site r → rests' ≡ rests_for sh (site + 1)
+    pub walking_on : site < sites sh → {l' : Lists} (r : Pass) {rests' : List ℕ} → SiteDone g sh l l' pl p site r → rests' ≡ rests_for sh (site + 1)
         → Walking g sh l₀ p₀ l' r rests' (site + 1)
-    walking_on h r z d e = record {
+    walking_on h r d e = record {
       inside = omega arith;
       rest = e;
-      sized = record {
-        roots = z.roots ∙ w.sized.roots;
-        decisions = z.decisions ∙ w.sized.decisions;
-        parents = z.parents ∙ w.sized.parents;
-        ranks = z.ranks ∙ w.sized.ranks;
-        offsets = z.offsets ∙ w.sized.offsets;
-      };
       keeps = λ a. d p₀.state a (site-at h a);
     }
 

@@ -1,5 +1,5 @@
 -- One bond more.
-use Rattle.std.specs.Prelude.{◌≡◌, Bool, true, false, cond, List, [], ◌∷◌, ◌++◌, ℕ, zero, suc, ◌+◌, ◌*◌, ◌<◌, ◌≤◌, length}
+use Rattle.std.specs.Prelude.{◌≡◌, Bool, true, false, cond, List, [], ◌∷◌, ◌++◌, ℕ, zero, suc, ◌+◌, ◌*◌, ◌<◌, ◌≤◌, length, refl, Option, Some, None}
 use Rattle.std.proofs.Common.{sym, ap, ◌∙◌, subst, append-nil, add-one, arith, length-append}
 use Rattle.lattice.specs.Lattice.{sites, in_domain}
 use Rattle.lattice.proofs.Laws.Neighbours.{domain, extent-pos}
@@ -9,22 +9,21 @@ use Rattle.graph.specs.Forest.{Bond, Forest, forest, join}
 use Rattle.graph.specs.Walk.{Within}
 use Rattle.graph.proofs.Laws.Roots.{sound-forest}
 use Rattle.graph.proofs.Laws.Same.{forest-next}
-use Rattle.clusters.specs.Inside.Rep.{Rep, Joined}
+use Rattle.clusters.specs.Inside.Rep.{Rep, Holds, Joined}
+use Rattle.clusters.specs.declared.links.Links.{Links}
 use Rattle.clusters.specs.declared.winding.Marks.{Marks}
-use Rattle.clusters.specs.Inside.Sway.{next, bond}
+use Rattle.clusters.specs.Inside.Sway.{next}
 use Rattle.clusters.specs.Call.{Call}
 use Rattle.clusters.specs.Update.{bond_at, visit_at, drawn}
 use Rattle.clusters.proofs.Laws.Places.{place}
 use Rattle.clusters.proofs.Laws.Drawn.{drawn-sound}
-use Rattle.clusters.specs.declared.fk.Plane.{Plane}
 use Rattle.clusters.specs.declared.fk.Pass.{Pass}
-use Rattle.clusters.specs.Inside.Run.{Lists, Given, Origin, call_of, scene, plane_of, Joint, Turned, Stands, Visit}
+use Rattle.clusters.specs.Inside.Run.{Plane, plane_in, Lists, Given, Origin, call_of, scene, plane_of, Joint, Turned, Stands, Visit}
 
 -- the forest's side of a bond
-pub forest-joined : (n : ℕ) (bs : List Bond) (c : Bond) {fs ks fs' ks' : List ℕ} → Rep fs ks (forest n bs) → Joined fs ks fs' ks' c.x c.y
-    → Rep fs' ks' (forest n (bs ++ c ∷ []))
+pub forest-joined : (n : ℕ) (bs : List Bond) (c : Bond) (l l' : Links) → Holds l (forest n bs) → Joined l l' c.x c.y → Holds l' (forest n (bs ++ c ∷ []))
 unfolding join
-forest-joined n bs c {fs' = fs'} {ks' = ks'} r j = subst (λ (f : Forest). Rep fs' ks' f) (sym (forest-next n bs c)) (j (forest n bs) r)
+forest-joined n bs c l l' r j = subst (λ (f : Forest). Holds l' f) (sym (forest-next n bs c)) (j (forest n bs) r)
 
 -- drawn, one bond further
 module _ (c : Call) (b : ℕ) where
@@ -74,13 +73,46 @@ pub one_size : (n : ℕ) (pl : Plane) (bs : List Bond) {l : Lists} {f : Marks} �
     → length l.parents ≡ length l.roots
 one_size n pl bs r t = t.swung.hangs.parents-n ∙ sym (roots-sized n bs t.swung.within r)
 
--- the bond that is next
-module _ (g : Given) (o : Origin) {l : Lists} {pl : Plane} {p : Pass} {site to axis b : ℕ} (v : Visit g o l pl p site to axis b) where
-  pub site-in : site < sites o.extents
-  site-in = subst (λ (k : Bond). k.x < sites o.extents) v.place (place o.extents v.fit.domain b v.below).0
+-- ---- the plane: the code has its extents where there are two axes
+first-of : Option (ℕ × ℕ) → ℕ
+first-of (Some p) = p.0
+first-of None = 0
 
-  pub to_in : to < sites o.extents
-  to_in = subst (λ (k : Bond). k.y < sites o.extents) v.place (place o.extents v.fit.domain b v.below).1
+second-of : Option (ℕ × ℕ) → ℕ
+second-of (Some p) = p.1
+second-of None = 0
+
+pub record Plain (pl : Plane) (x y : ℕ) : Type 0 where
+  pub two : pl.two ≡ true
+  pub ex : pl.ex ≡ x
+  pub ey : pl.ey ≡ y
+
+pub plane-some : (pl : Plane) (ex ey : ℕ) {o : Option (ℕ × ℕ)} → o ≡ plane_in pl → o ≡ Some (ex, ey) → Plain pl ex ey
+unfolding first-of second-of
+plane-some pl ex ey e f = go pl.two refl (sym e ∙ f)
+  where
+    go : (b : Bool) → pl.two ≡ b → cond {A = Option (ℕ × ℕ)} b (Some (pl.ex, pl.ey)) None ≡ Some (ex, ey) → Plain pl ex ey
+    go true t h = record { two = t; ex = ap first-of h; ey = ap second-of h }
+    go false t h = cc
+
+pub plane-none : (pl : Plane) {o : Option (ℕ × ℕ)} → o ≡ plane_in pl → o ≡ None → pl.two ≡ false
+plane-none pl e f = go pl.two refl (sym e ∙ f)
+  where
+    go : (b : Bool) → pl.two ≡ b → cond {A = Option (ℕ × ℕ)} b (Some (pl.ex, pl.ey)) None ≡ None → pl.two ≡ false
+    go true t h = cc
+    go false t h = t
+
+-- its extents are no 0
+pub plane-pos : (sh : List ℕ) → in_domain sh ≡ true → (0 < (plane_of sh).ex) × (0 < (plane_of sh).ey)
+plane-pos sh d = let r = (domain sh d).range in (extent-pos sh 0 r, extent-pos sh 1 r)
+
+-- the bond that is next
+module _ (g : Given) (o : Origin) {l : Lists} {pl : Plane} {p : Pass} {k : Bond} {b : ℕ} (v : Visit g o l pl p k b) where
+  pub site-in : k.x < sites o.extents
+  site-in = subst (λ (q : Bond). q.x < sites o.extents) v.place (place o.extents v.fit.domain b v.below).0
+
+  pub to_in : k.y < sites o.extents
+  to_in = subst (λ (q : Bond). q.y < sites o.extents) v.place (place o.extents v.fit.domain b v.below).1
 
   pub roots-n : length l.roots ≡ sites o.extents
   roots-n = let h = v.below in roots-sized (sites o.extents) (drawn (call_of g o) b).active (within-drawn (call_of g o) b v.fit.domain (omega arith)) v.here.joint.rep
@@ -88,27 +120,22 @@ module _ (g : Given) (o : Origin) {l : Lists} {pl : Plane} {p : Pass} {site to a
   pub few-sites : sites o.extents ≤ 16777216
   few-sites = (domain o.extents v.fit.domain).few
 
-  pub plane-pos : (0 < pl.ex) × (0 < pl.ey)
-  plane-pos =
-      subst (λ (q : Plane). (0 < q.ex) × (0 < q.ey)) (sym v.plane)
-      (extent-pos o.extents 0 (domain o.extents v.fit.domain).range, extent-pos o.extents 1 (domain o.extents v.fit.domain).range)
-
   -- the same on the code's plane, and back
   pub on-plane : Joint pl.two (scene (sites o.extents) pl (drawn (call_of g o) b).active) l p.marks
   on-plane = subst (λ (q : Plane). Joint q.two (scene (sites o.extents) q (drawn (call_of g o) b).active) l p.marks) (sym v.plane) v.here.joint
 
-  pub off-plane : {l' : Lists} {m : Marks} → Joint pl.two (next (scene (sites o.extents) pl (drawn (call_of g o) b).active) (bond site to axis)) l' m
-      → Joint (plane_of o.extents).two (next (scene (sites o.extents) (plane_of o.extents) (drawn (call_of g o) b).active) (bond site to axis)) l' m
+  pub off-plane : {l' : Lists} {m : Marks} → Joint pl.two (next (scene (sites o.extents) pl (drawn (call_of g o) b).active) k) l' m
+      → Joint (plane_of o.extents).two (next (scene (sites o.extents) (plane_of o.extents) (drawn (call_of g o) b).active) k) l' m
   off-plane {l'} {m} j =
-      subst (λ (q : Plane). Joint q.two (next (scene (sites o.extents) q (drawn (call_of g o) b).active) (bond site to axis)) l' m) v.plane j
+      subst (λ (q : Plane). Joint q.two (next (scene (sites o.extents) q (drawn (call_of g o) b).active) k) l' m) v.plane j
 
   -- what visiting it comes to
-  visit-is : (a : Activation) → a ≡ visit_of g.spins g.couplings g.weights g.thresholds site to b p.state → a ≡ visit_at (call_of g o) b (drawn (call_of g o) b).generator
+  visit-is : (a : Activation) → a ≡ visit_of g.spins g.couplings g.weights g.thresholds k.x k.y b p.state → a ≡ visit_at (call_of g o) b (drawn (call_of g o) b).generator
   visit-is a e =
-      e ∙ ap (visit_of g.spins g.couplings g.weights g.thresholds site to b) v.here.state
-      ∙ ap (λ (k : Bond). visit_of g.spins g.couplings g.weights g.thresholds k.x k.y b (drawn (call_of g o) b).generator) (sym v.place)
+      e ∙ ap (visit_of g.spins g.couplings g.weights g.thresholds k.x k.y b) v.here.state
+      ∙ ap (λ (q : Bond). visit_of g.spins g.couplings g.weights g.thresholds q.x q.y b (drawn (call_of g o) b).generator) (sym v.place)
 
-  module _ (a : Activation) (e : a ≡ visit_of g.spins g.couplings g.weights g.thresholds site to b p.state) where
+  module _ (a : Activation) (e : a ≡ visit_of g.spins g.couplings g.weights g.thresholds k.x k.y b p.state) where
     -- it is not active
     pub passed : a.active ≡ false → Stands (call_of g o) (b + 1) l (record { state = a.state; active = p.active; marks = p.marks })
     passed t =
@@ -122,14 +149,14 @@ module _ (g : Given) (o : Origin) {l : Lists} {pl : Plane} {p : Pass} {site to a
 
     -- it is
     pub taken : a.active ≡ true → {l' : Lists} (m : Marks)
-        → Joint (plane_of o.extents).two (next (scene (sites o.extents) (plane_of o.extents) (drawn (call_of g o) b).active) (bond site to axis)) l' m
+        → Joint (plane_of o.extents).two (next (scene (sites o.extents) (plane_of o.extents) (drawn (call_of g o) b).active) k) l' m
         → Stands (call_of g o) (b + 1) l' (record { state = a.state; active = p.active + 1; marks = m })
     taken t {l'} m j =
         let u = visit-is a e in
-        let s : (drawn (call_of g o) (b + 1)).active ≡ (drawn (call_of g o) b).active ++ bond site to axis ∷ [] =
-        active-more (call_of g o) b (sym (ap (λ (x : Activation). x.active) u) ∙ t) ∙ ap (λ (k : Bond). (drawn (call_of g o) b).active ++ k ∷ []) v.place in
+        let s : (drawn (call_of g o) (b + 1)).active ≡ (drawn (call_of g o) b).active ++ k ∷ [] =
+        active-more (call_of g o) b (sym (ap (λ (x : Activation). x.active) u) ∙ t) ∙ ap (λ (q : Bond). (drawn (call_of g o) b).active ++ q ∷ []) v.place in
         record {
           state = ap (λ (x : Activation). x.state) u ∙ sym (generator-next (call_of g o) b);
-          active = ap (λ (k : ℕ). k + 1) v.here.active ∙ sym (ap length s ∙ length-append (drawn (call_of g o) b).active (bond site to axis ∷ []));
+          active = ap (λ (k : ℕ). k + 1) v.here.active ∙ sym (ap length s ∙ length-append (drawn (call_of g o) b).active (k ∷ []));
           joint = subst (λ (bs : List Bond). Joint (plane_of o.extents).two (scene (sites o.extents) (plane_of o.extents) bs) l' m) (sym s) j;
         }

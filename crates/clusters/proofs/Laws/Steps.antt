@@ -1,6 +1,6 @@
 -- The parts of an accepted call put together.
-use Rattle.std.specs.Prelude.{◌≡◌, refl, Bool, false, ◌&&◌, List, [], ℕ, ◌+◌, ◌*◌, ◌^◌, ◌<◌, ◌≤◌, length, get_or, replicate, ℤ, pos, ◌+ℤ◌}
-use Rattle.std.proofs.Common.{sym, ap, ap₂, ◌∙◌, subst, arith}
+use Rattle.std.specs.Prelude.{◌≡◌, refl, Bool, false, List, [], ℕ, ◌+◌, ◌*◌, ◌^◌, ◌<◌, ◌≤◌, length, get_or, replicate, ℤ, pos, ◌+ℤ◌}
+use Rattle.std.proofs.Common.{sym, ap, ap₂, ◌∙◌, subst, arith, eq-eqb, ne_eqb}
 use mathlib.Core.List.Memᴰ
 use Rattle.std.proofs.lemmas.List.{length-replicate, get_or-replicate}
 use Rattle.std.proofs.Math.IntN.{+ℤ_idl}
@@ -19,14 +19,18 @@ use Rattle.clusters.specs.declared.Observation.{Observation}
 use Rattle.clusters.specs.declared.Top.{Top}
 use Rattle.clusters.specs.Sizes.{four_of, descending, at_least, twentieth}
 use Rattle.clusters.specs.Observation.{two_axes}
-use Rattle.clusters.specs.Update.{Ended, ended}
+use Rattle.clusters.specs.Update.{Ended, drawn, ended}
 use Rattle.clusters.specs.Inside.Bare.{bare, sizes_of}
 use Rattle.clusters.proofs.Laws.Counts.{length-sizes_of, sizes-le}
+use Rattle.clusters.specs.declared.winding.Marks.{Marks}
+use Rattle.clusters.specs.declared.links.Links.{Links}
+use Rattle.clusters.specs.declared.fk.Lists.{Lists as CodeLists}
 use Rattle.clusters.specs.declared.fk.Pass.{Pass}
-use Rattle.clusters.specs.declared.fk.Plane.{Plane}
-use Rattle.clusters.specs.Inside.Run.{Given, Lists, lists, scene, plane_of, Joint, Start, Done}
+use Rattle.clusters.specs.Inside.Read.{lists_of}
+use Rattle.clusters.specs.Inside.Run.{Plane, Given, Fit, Lists, lists, call_of, origin, scene, plane_of, Joint, Start, Done}
+use Rattle.clusters.proofs.Laws.Run.{roots-sized, within-drawn}
 use Rattle.generator.specs.declared.Xoshiro256StarStar.{Xoshiro256StarStar}
-use Rattle.clusters.specs.Inside.Steps.{DrewAll, Room, Countable, observed_by, held}
+use Rattle.clusters.specs.Inside.Steps.{DrewAll, Room, Countable, shown, observed_by, held}
 
 -- ---- the start
 -- n sites, each its own root and its own parent, with nothing drawn
@@ -73,13 +77,20 @@ started {sh = sh} r {l} e = record {
         e ∙ (λ i. lists (up_from 0 (r.roots i)) (replicate (r.decisions i) 0) (up_from 0 (r.parents i)) (replicate (r.ranks i) 0) (replicate (r.offsets i) (pos 0)))
 
 -- ---- the pass done and the roots flattened
-pub drew : (g : Given) (sh : List ℕ) (x : Xoshiro256StarStar) (l : Lists) (p : Pass) → Done g sh l x p → {roots : List ℕ} → Flattened l.roots l.decisions roots
-    → DrewAll g sh x roots l.decisions p
-drew g sh x l p d f a =
+pub few-roots : (g : Given) (sh : List ℕ) (x : Xoshiro256StarStar) (l : Lists) (p : Pass) → Fit g sh → Done g sh l x p → length l.roots ≤ 2 ^ 32
+few-roots g sh x l p f d =
+    let c = call_of g (origin sh x Observe) in
+    let e = roots-sized (sites sh) (drawn c (sites sh * length sh)).active (within-drawn c (sites sh * length sh) f.domain (omega arith)) (d Observe).joint.rep in
+    omega (arith, e, (domain sh f.domain).few)
+
+pub drew : (g : Given) (sh : List ℕ) (x : Xoshiro256StarStar) (l : CodeLists) (p : Pass) → Done g sh (lists_of l) x p → (k : Links) → Flattened l.links.now k
+    → DrewAll g sh x k.parent.now k.rank.now p
+drew g sh x l p d k f a =
     let s = d a in
+    let h = f _ s.joint.rep in
     record {
-      roots-are = f _ s.joint.rep;
-      ranks-are = s.joint.rep.ranks;
+      roots-are = h.0;
+      ranks-are = h.1;
       state = s.state;
       count = s.active;
       flags = λ t. (s.joint.turned t).flags;
@@ -98,12 +109,18 @@ counted {roots} {counts} {hist} c counts' e =
       inside = λ i lt. let h : i < length roots = omega (arith, length-sizes_of roots) in let n = c.hist-n in omega (arith, sizes-le roots i h);
     })
 
-pub same-observation : (counts : List ℕ) (pl : Plane) (p : Pass) {k l : ℕ} {t : Top} {x y z : Bool}
-    → k ≡ filled counts → t ≡ four_of (descending counts) → l ≡ at_least (twentieth (length counts)) counts
-    → x ≡ (pl.two && p.marks.x) → y ≡ (pl.two && p.marks.y) → z ≡ (pl.two && p.marks.torn)
-    → ◌≡◌ {A = Observation} (record { components = k; active = p.active; top = t; large = l; winding = record { x = x; y = y }; torn = z }) (observed_by counts pl p)
-same-observation counts pl p ek et el ex ey ez =
-    λ i. record { components = ek i; active = p.active; top = et i; large = el i; winding = record { x = ex i; y = ey i }; torn = ez i }
+pub same-observation : (counts : List ℕ) (pl : Plane) (p : Pass) {k l : ℕ} {t : Top} {f : Marks}
+    → k ≡ filled counts → t ≡ four_of (descending counts) → l ≡ at_least (twentieth (length counts)) counts → f ≡ shown pl p.marks
+    → ◌≡◌ {A = Observation} (record { components = k; active = p.active; top = t; large = l; winding = record { x = f.x; y = f.y }; torn = f.torn }) (observed_by counts pl p)
+same-observation counts pl p ek et el ef =
+    λ i. record { components = ek i; active = p.active; top = et i; large = el i; winding = record { x = (ef i).x; y = (ef i).y }; torn = (ef i).torn }
+
+-- the flags of two axes, and of any other number
+pub shown-two : (sh : List ℕ) (f : Marks) → length sh ≡ 2 → f ≡ shown (plane_of sh) f
+shown-two sh f e = rw (eq-eqb (length sh) 2 e) refl
+
+pub shown-other : (sh : List ℕ) (f r : Marks) → (length sh ≡ 2 → ⊥) → r.x ≡ false → r.y ≡ false → r.torn ≡ false → r ≡ shown (plane_of sh) f
+shown-other sh f r n x y t = rw (ne_eqb (length sh) 2 n) (λ i. record { x = x i; y = y i; torn = t i })
 
 -- ---- step 4
 pub observed-only : {a : Action} (roots ds : List ℕ) (ss : List ℤ) (g : Xoshiro256StarStar) → a ≡ Observe

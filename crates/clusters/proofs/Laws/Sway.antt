@@ -1,6 +1,6 @@
 -- What a lookup finds, and what a bond does to the three lists.
-use Rattle.std.specs.Prelude.{◌≡◌, refl, ◌≢◌, Bool, true, false, cond, ◌||◌, ℕ, ◌+◌, ◌*◌, ◌-◌, ◌≤◌, ◌<◌, length, get_or, set, eqb, pos, neg_ℤ, nat_abs, ◌+ℤ◌, ◌-ℤ◌}
-use Rattle.std.proofs.Common.{sym, ap₂, ◌∙◌, ⊎_elim, add-one, arith, length-set, lit<, get_or-set_same, get_or-set_other, SFits, to_z, of_z, le_trans}
+use Rattle.std.specs.Prelude.{◌≡◌, refl, ◌≢◌, Bool, true, false, cond, ◌||◌, Some, None, ℕ, ◌+◌, ◌*◌, ◌-◌, ◌≤◌, ◌<◌, length, get_or, set, pos, neg_ℤ, nat_abs, ◌+ℤ◌, ◌-ℤ◌}
+use Rattle.std.proofs.Common.{sym, ap₂, ◌∙◌, ⊎_elim, add-one, arith, length-set, lit<, get_or-set_same, get_or-set_other, le_trans, SFits, to_z, of_z}
 use Rattle.std.proofs.Math.Path.{ap, subst}
 use mathlib.Core.List.Memᴰ
 use mathlib.Core.List.{List, [], ◌∷◌, ◌++◌, Memᴰ}
@@ -23,13 +23,12 @@ use Rattle.graph.proofs.Laws.Sizes.{rank-le}
 use Rattle.clusters.specs.declared.winding.Found.{Found}
 use Rattle.clusters.specs.declared.winding.Marks.{Marks}
 use Rattle.clusters.specs.declared.winding.Way.{Way}
-use Rattle.clusters.specs.declared.winding.Closing.TheVariants.{Joined, Closed}
-use Rattle.clusters.specs.Inside.Links.{Hangs}
+use Rattle.clusters.specs.Inside.Links.{Hung, Hangs}
 use Rattle.clusters.proofs.Laws.Links.{hangs-absorb}
 use Rattle.clusters.specs.Inside.Join as J
-use Rattle.clusters.specs.Inside.Join.{Wind, Room, link, raise}
+use Rattle.clusters.specs.Inside.Join.{Wind, Room, Linkable, link, raise}
 use Rattle.clusters.proofs.Laws.Join.{join-lower, join-equal, join-higher}
-use Rattle.clusters.specs.Inside.Sway.{Scene, trees, xs, ys, next, on, Swings, Swung, found, moved, far, rounded, away, off, marks, marks_of, closing, way_of}
+use Rattle.clusters.specs.Inside.Sway.{Scene, trees, xs, ys, next, on, Swings, Swung, found, moved, far, Near, rounded, around_of, away, off, marks, marks_of, closing, way_of}
 
 -- ---- places and ways
 -- two places are equal by their parts
@@ -46,9 +45,6 @@ step-last f g s = rw (view f, view g, view s) (simp (diff-neg, diff-add) (diff-e
 
 -- ---- one axis
 module _ (d e n : ℕ) (bonds : List Bond) (within : Within n bonds) where
-  turn : Winding
-  turn = winding (along d) e n bonds
-
   good : Good n (winding (along d) e n bonds)
   good = (spread-all (along d) e n bonds (short-along d) within).0
 
@@ -63,52 +59,64 @@ module _ (d e n : ℕ) (bonds : List Bond) (within : Within n bonds) where
 
 -- ---- the lookup
 module _ (k : Scene) {ps rs : List ℕ} {os : List ℤ} (sw : Swung k ps rs os) where
+  in_scene : (i : ℕ) → i < length ps → i < k.n
+  in_scene i h = rw sw.hangs.parents-n at h
+
   pub rank-small : (i : ℕ) → i < k.n → get_or rs i 0 ≤ 24
   rank-small i h = rw sw.ranks (rank-le k.n k.bonds sw.within 24 sw.few i h)
 
+  -- each site is near its root
   pub x-near : (i : ℕ) → i < k.n → nat_abs (offset (xs k) i) ≤ far
   x-near i h = let l = sw.few in omega (arith, near 0 k.ex k.n k.bonds sw.within i h)
 
   pub y-near : (i : ℕ) → i < k.n → nat_abs (offset (ys k) i) ≤ far
   y-near i h = let l = sw.few in omega (arith, near 1 k.ey k.n k.bonds sw.within i h)
 
-  pub at-root : (s : ℕ) → s < k.n → get_or ps s 0 ≡ s → ◌≡◌ {A = Found} (record { root = s; x = pos 0; y = pos 0 }) (found k s)
+  pub near-found : (i : ℕ) → i < length ps → Near (found k i)
+  near-found i h = record {
+    x = x-near i (in_scene i h);
+    y = y-near i (in_scene i h);
+  }
+
+  pub at-root : (s : ℕ) → s < length ps → get_or ps s 0 ≡ s → ◌≡◌ {A = Found} (record { root = s; x = pos 0; y = pos 0 }) (found k s)
   at-root s h e =
-      let r = (sw.hangs.hung s h).ends e in
-      let a = zero-at 0 k.ex k.n k.bonds sw.within s h r in
-      let b = zero-at 1 k.ey k.n k.bonds sw.within s h r in
+      let r = (sw.hangs.hung s (in_scene s h)).ends e in
+      let a = zero-at 0 k.ex k.n k.bonds sw.within s (in_scene s h) r in
+      let b = zero-at 1 k.ey k.n k.bonds sw.within s (in_scene s h) r in
       λ i. record { root = (sym r) i; x = (sym a) i; y = (sym b) i }
 
-  module _ (s p : ℕ) (h : s < k.n) (e : p ≡ get_or ps s 0) (ne : p ≢ s) where
-    pub parent_in : p < k.n
-    parent_in = rw e (sw.hangs.hung s h).parent-lt
+  module _ (s : ℕ) (h : s < length ps) (ne : get_or ps s 0 ≢ s) where
+    up-link : Hung k.n (trees k) s (get_or ps s 0)
+    up-link = sw.hangs.hung s (in_scene s h)
 
-    pub rank_falls : (t : ℕ) → 255 - get_or rs s 0 ≡ t → 255 - get_or rs p 0 < t
+    pub parent_in : get_or ps s 0 < length ps
+    parent_in = rw sw.hangs.parents-n up-link.parent-lt
+
+    pub rank_falls : (t : ℕ) → 255 - get_or rs s 0 ≡ t → 255 - get_or rs (get_or ps s 0) 0 < t
     rank_falls t i =
-        let up : get_or rs s 0 < get_or rs p 0 = rw (sw.ranks, e) ((sw.hangs.hung s h).rises (λ q. ne (e ∙ q))) in
-        omega (arith, rank-small p parent_in)
+        let up : get_or rs s 0 < get_or rs (get_or ps s 0) 0 = rw sw.ranks (up-link.rises ne) in
+        omega (arith, rank-small (get_or ps s 0) up-link.parent-lt)
 
-    module _ (x y : ℤ) (w : Found) (ex : x ≡ on os 0 s) (ey : y ≡ on os 1 s) (ew : w ≡ found k p) where
+    module _ (x y : ℤ) (w : Found) (ex : x ≡ get_or os (2 * s) (pos 0)) (ey : y ≡ on os 1 s) (ew : w ≡ found k (get_or ps s 0)) where
       pub one_link : moved w x y ≡ found k s
       one_link =
-          (λ i. moved (ew i) (ex i) (ey i)) ∙ ap (λ (q : ℕ). moved (found k q) (on os 0 s) (on os 1 s)) e
-          ∙ (λ i. record { root = (sw.hangs.hung s h).same-root i; x = (sym (sw.x.swings s h)) i; y = (sym (sw.y.swings s h)) i })
+          let ex' : x ≡ on os 0 s = ex ∙ ap (λ (i : ℕ). get_or os i (pos 0)) (omega arith) in
+          (λ i. moved (ew i) (ex' i) (ey i))
+          ∙ (λ i. record { root = up-link.same-root i; x = (sym (sw.x.swings s (in_scene s h))) i; y = (sym (sw.y.swings s (in_scene s h))) i })
 
       pub sum_fits : SFits w64 (x +ℤ w.x) × SFits w64 (y +ℤ w.y)
       sum_fits = (
-        near_fits (x +ℤ w.x) far (subst (λ (v : Found). nat_abs v.x ≤ far) (sym one_link) (x-near s h)) (lit< tt),
-        near_fits (y +ℤ w.y) far (subst (λ (v : Found). nat_abs v.y ≤ far) (sym one_link) (y-near s h)) (lit< tt),
+        near_fits (x +ℤ w.x) far (subst (λ (v : Found). nat_abs v.x ≤ far) (sym one_link) (near-found s h).x) (lit< tt),
+        near_fits (y +ℤ w.y) far (subst (λ (v : Found). nat_abs v.y ≤ far) (sym one_link) (near-found s h).y) (lit< tt),
       )
 
 -- ---- the way around a bond, from the two places found
-module _ (k : Scene) (c : Bond) (f g : Found) (ef : f ≡ found k c.x) (eg : g ≡ found k c.y) where
-  pub way-is : (x y : ℤ) → x ≡ rounded f.x g.x (eqb c.axis 0) → y ≡ rounded f.y g.y (eqb c.axis 1)
-      → ◌≡◌ {A = Way} (record { a = f.root; b = g.root; x = x; y = y }) (way_of k c)
-  unfolding around along
-  way-is x y ex ey =
-      let px = ex ∙ (λ i. rounded (ef i).x (eg i).x (eqb c.axis 0)) ∙ step-last (offset (xs k) c.x) (offset (xs k) c.y) (along 0 c) in
-      let py = ey ∙ (λ i. rounded (ef i).y (eg i).y (eqb c.axis 1)) ∙ step-last (offset (ys k) c.x) (offset (ys k) c.y) (along 1 c) in
-      λ i. record { a = (ef i).root; b = (eg i).root; x = px i; y = py i }
+pub way-is : (k : Scene) (c : Bond) → around_of (found k c.x) (found k c.y) c.axis ≡ way_of k c
+unfolding around along
+way-is k c =
+    let px = step-last (offset (xs k) c.x) (offset (xs k) c.y) (along 0 c) in
+    let py = step-last (offset (ys k) c.x) (offset (ys k) c.y) (along 1 c) in
+    λ i. record { a = root_of (trees k) c.x; b = root_of (trees k) c.y; around = (px i, py i) }
 
 -- what a place found is, as it is read back from a local
 module _ (k : Scene) {ps rs : List ℕ} {os : List ℤ} (sw : Swung k ps rs os) (s : ℕ) (h : s < k.n) (f : Found) (e : f ≡ found k s) where
@@ -149,33 +157,51 @@ module _ (k : Scene) {ps rs : List ℕ} {os : List ℤ} (sw : Swung k ps rs os) 
     pub spare : get_or rs q.a 0 < 255
     spare = let l : q.a < k.n = rw sw.hangs.parents-n at a_in in omega (arith, rank-small k sw q.a l)
 
-    bound-x : nat_abs q.x ≤ 2 * far
+    bound-x : nat_abs q.around.0 ≤ 2 * far
     bound-x =
-        subst (λ (v : Way). nat_abs v.x ≤ 2 * far) (sym e)
+        subst (λ (v : Way). nat_abs v.around.0 ≤ 2 * far) (sym e)
         (let l = sw.few in omega (arith, bounds.around-lt (along 0) k.ex k.n k.bonds (short-along 0) sw.within c hx hy))
 
-    bound-y : nat_abs q.y ≤ 2 * far
+    bound-y : nat_abs q.around.1 ≤ 2 * far
     bound-y =
-        subst (λ (v : Way). nat_abs v.y ≤ 2 * far) (sym e)
+        subst (λ (v : Way). nat_abs v.around.1 ≤ 2 * far) (sym e)
         (let l = sw.few in omega (arith, bounds.around-lt (along 1) k.ey k.n k.bonds (short-along 1) sw.within c hx hy))
 
-    pub way-back-x : to_z w64 (of_z w64 q.x) ≡ q.x
-    way-back-x = read_back q.x (near_fits q.x _ bound-x (lit< tt)).sfits
+    pub way-back-x : to_z w64 (of_z w64 q.around.0) ≡ q.around.0
+    way-back-x = read_back q.around.0 (near_fits q.around.0 _ bound-x (lit< tt)).sfits
 
-    pub way-back-y : to_z w64 (of_z w64 q.y) ≡ q.y
-    way-back-y = read_back q.y (near_fits q.y _ bound-y (lit< tt)).sfits
+    pub way-back-y : to_z w64 (of_z w64 q.around.1) ≡ q.around.1
+    way-back-y = read_back q.around.1 (near_fits q.around.1 _ bound-y (lit< tt)).sfits
 
-    pub way-seen-x : nat_abs (to_z w64 (of_z w64 q.x)) < 9223372036854775808
+    pub way-seen-x : nat_abs (to_z w64 (of_z w64 q.around.0)) < 9223372036854775808
     way-seen-x = rw way-back-x (omega (arith, bound-x))
 
-    pub way-seen-y : nat_abs (to_z w64 (of_z w64 q.y)) < 9223372036854775808
+    pub way-seen-y : nat_abs (to_z w64 (of_z w64 q.around.1)) < 9223372036854775808
     way-seen-y = rw way-back-y (omega (arith, bound-y))
 
+-- all of that at once
+module _ (k : Scene) {ps rs : List ℕ} {os : List ℤ} (sw : Swung k ps rs os) (c : Bond) (ix : c.x < length ps) (iy : c.y < length ps) where
+  pub linkable : (q : Way) → q ≡ way_of k c → Linkable (J.wind ps rs os) q
+  linkable q e =
+      let room = room_for k sw in
+      let hx = in_scene k sw c.x ix in
+      let hy = in_scene k sw c.y iy in
+      record {
+        ranks = room.ranks;
+        offsets = room.offsets;
+        few = room.few;
+        a = a_in k sw c hx hy q e;
+        b = b-in k sw c hx hy q e;
+        spare = spare k sw c hx hy q e;
+        x = omega (arith, bound-x k sw c hx hy q e);
+        y = omega (arith, bound-y k sw c hx hy q e);
+      }
+
 module _ (q : Way) where
-  pub closes : q.a ≡ q.b → closing q ≡ Closed q.x q.y
+  pub closes : q.a ≡ q.b → closing q ≡ Some q.around
   closes e = rw (eq-eqb q.a q.b e)
 
-  pub joins : (q.a ≡ q.b → ⊥) → closing q ≡ Joined
+  pub joins : (q.a ≡ q.b → ⊥) → closing q ≡ None
   joins n = rw (ne_eqb q.a q.b n)
 
 -- ---- a bond's two roots
@@ -262,18 +288,12 @@ module _ (os : List ℤ) (l : ℕ) (x y : ℤ) (h : 2 * l + 1 < length os) where
       ∙ get_or-set_other os (2 * l + 0) (2 * i + d) x (pos 0) (λ e. ne (omega arith))
 
 -- ---- one bond more
-module _ (k : Scene) (c : Bond) {ps rs : List ℕ} {os : List ℤ} (sw : Swung k ps rs os) (hx : c.x < k.n) (hy : c.y < k.n) where
-  a : ℕ
-  a = root_of (trees k) c.x
+module _ (k : Scene) (c : Bond) {ps rs : List ℕ} {os : List ℤ} (sw : Swung k ps rs os) (ix : c.x < length ps) (iy : c.y < length ps) where
+  hx : c.x < k.n
+  hx = in_scene k sw c.x ix
 
-  b : ℕ
-  b = root_of (trees k) c.y
-
-  dx : ℤ
-  dx = around (along 0) k.ex (xs k) c
-
-  dy : ℤ
-  dy = around (along 1) k.ey (ys k) c
+  hy : c.y < k.n
+  hy = in_scene k sw c.y iy
 
   within-next : Within k.n (k.bonds ++ c ∷ [])
   within-next q m =
@@ -442,12 +462,12 @@ module _ (k : Scene) (c : Bond) {ps rs : List ℕ} {os : List ℤ} (sw : Swung k
   marks-next =
       by-dec (ℕ_discrete (root_of (trees k) c.x) (root_of (trees k) c.y))
       (λ e.
-      ap (λ (t : Bool). marks (marks_of k) (cond t (Closed zx' zy') Joined) k.ex k.ey) (eq-eqb (root_of (trees k) c.x) (root_of (trees k) c.y) e)
+      ap (λ (t : Bool). marks (marks_of k) (cond t (Some (zx', zy')) None) k.ex k.ey) (eq-eqb (root_of (trees k) c.x) (root_of (trees k) c.y) e)
       ∙ (λ i. record { x = (xs k).wraps || away zx'; y = (ys k).wraps || away zy'; torn = or_swap (xs k).torn (ys k).torn (off zx' k.ex) (off zy' k.ey) i })
       ∙ same-marks (ap (λ (s : Winding). s.wraps) (sym (x-closed e))) (ap (λ (s : Winding). s.wraps) (sym (y-closed e)))
       (ap (λ (s : Winding). s.torn) (sym (x-closed e))) (ap (λ (s : Winding). s.torn) (sym (y-closed e))))
       (λ n.
-      ap (λ (t : Bool). marks (marks_of k) (cond t (Closed zx' zy') Joined) k.ex k.ey) (ne_eqb (root_of (trees k) c.x) (root_of (trees k) c.y) n)
+      ap (λ (t : Bool). marks (marks_of k) (cond t (Some (zx', zy')) None) k.ex k.ey) (ne_eqb (root_of (trees k) c.x) (root_of (trees k) c.y) n)
       ∙ same-marks (still-wraps n 0 k.ex) (still-wraps n 1 k.ey) (still-torn n 0 k.ex) (still-torn n 1 k.ey))
     where
       zx' : ℤ

@@ -1,6 +1,7 @@
 -- The four largest: one more put in, and what stands from a place on, taken from the end.
-use Rattle.std.specs.Prelude.{ℕ, suc, ◌-◌, ◌<◌, ◌≤◌, ltb, length, get_or, drop, Bool, true, false, cond, List, [], ◌∷◌, ◌≡◌, refl}
+use Rattle.std.specs.Prelude.{ℕ, suc, ◌-◌, ◌<◌, ◌≤◌, ltb, length, get_or, drop, Bool, true, false, cond, List, [], ◌∷◌, ◌≡◌, refl, reverse, ◌++◌}
 use Rattle.std.proofs.Common.{zero-le, le-ltb, drop_of_length-le, drop-cons, ap, ◌∙◌, sym, arith}
+use Rattle.std.proofs.lemmas.List.{reverse-reverse, reverse-append}
 use Rattle.clusters.specs.Inside.Placed.{Placed}
 use Rattle.clusters.specs.Sizes.{insert, four_of, descending}
 use Rattle.clusters.specs.declared.Top.{Top}
@@ -57,6 +58,24 @@ insert-four x (a ∷ b ∷ c ∷ d ∷ es) = go (ltb x a) (ltb x b) (ltb x c) (l
 pub placing : (t : Top) (x : ℕ) (r : Top) → r ≡ placed x t → Placed t x r
 placing t x r e l k = e ∙ ap (placed x) k ∙ insert-four x l
 
+-- the four of the counts that were met, from the last one back
+abbrev pub top_of : List ℕ → Top
+top_of met = four_of (descending (reverse met))
+
+pub topped : (met : List ℕ) (x : ℕ) (t r : Top) → t ≡ top_of met → Placed t x r → r ≡ top_of (met ++ x ∷ [])
+unfolding descending
+topped met x t r e p = rw (reverse-append met (x ∷ [])) (p (descending (reverse met)) e)
+
+-- none yet
+pub top-none : (t : Top) → t.first ≡ 0 → t.second ≡ 0 → t.third ≡ 0 → t.fourth ≡ 0 → t ≡ top_of []
+unfolding descending
+top-none t a b c d i = record { first = a i; second = b i; third = c i; fourth = d i }
+
+-- all of them
+pub top-all : (counts : List ℕ) → top_of (reverse counts) ≡ four_of (descending counts)
+top-all counts = rw (reverse-reverse counts) refl
+
+-- ---- the same by the place, from the end
 abbrev pub top_from : List ℕ → ℕ → Top
 top_from counts i = four_of (descending (drop i counts))
 

@@ -5,6 +5,7 @@ use Rattle.std.proofs.Math.Path.{ap}
 use Rattle.std.proofs.Math.Bool.{cond}
 use Rattle.std.proofs.Math.Decide.{ℕ_discrete}
 use Rattle.domain.specs.Cases.{by-dec}
+use mir.Val.{bool_byte}
 use mathlib.Core.List.{List, [], ◌∷◌}
 use borrow.Author.Count.{below_none, below_more}
 use Rattle.std.proofs.Math.ListN.{length, get_or, length-set}
@@ -29,6 +30,11 @@ module _ (r : ℕ) (ds : List ℕ) (g : Xoshiro256StarStar) where
   pub not-tossed : (get_or ds r 0 ≡ 2 → ⊥) → coins_of ds g ≡ toss r (coins_of ds g)
   unfolding toss
   not-tossed n = rw (ne_eqb (get_or ds r 0) 2 n)
+
+-- heads as a byte
+pub byte-coin : (b : Bool) → bool_byte b ≡ cond b 1 0
+byte-coin true = refl
+byte-coin false = refl
 
 -- a coin is no 2
 no-coin : (b : Bool) → ◌≡◌ {A = ℕ} (cond b 1 0) 2 → ⊥

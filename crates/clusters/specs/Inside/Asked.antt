@@ -1,9 +1,8 @@
 -- The checks of a call, with the lent lists seen only by their lengths, and the histogram. Definitions only, and that they are the call's.
 use Rattle.std.specs.Prelude.{◌≡◌, refl, Bool, not, List, [], ◌∷◌, ℕ, ◌+◌, ◌*◌, eqb, length, ℤ, Float}
-use Rattle.domain.specs.declared.Verdict.{Verdict}
 use Rattle.domain.specs.declared.Refusal.TheVariants.{Shape, Length, Generator, Classes, Spin, Coupling, Histogram}
 use Rattle.domain.specs.Numbers.{is_spin, is_entry}
-use Rattle.domain.specs.Refusals.{need, every, need_each, checks}
+use Rattle.domain.specs.Refusals.{Verdict, need, every, need_each, checks}
 use Rattle.generator.specs.declared.Xoshiro256StarStar.{Xoshiro256StarStar}
 use Rattle.generator.specs.Xoshiro.{dead}
 use Rattle.lattice.specs.Lattice.{sites, in_domain}

@@ -1,5 +1,7 @@
 -- What a join does to the three lists.
-use Rattle.std.specs.Prelude.{◌≡◌, cond, List, ℕ, ◌+◌, ◌*◌, ◌≤◌, eqb, ltb, length, get_or, set, ℤ, neg_ℤ}
+use Rattle.std.specs.Prelude.{◌≡◌, cond, List, ℕ, ◌+◌, ◌*◌, ◌^◌, ◌≤◌, ◌<◌, eqb, ltb, length, get_or, set, ℤ, neg_ℤ, nat_abs}
+use Rattle.clusters.specs.declared.winding.Way.{Way}
+use Rattle.clusters.specs.declared.winding.Winding.{Winding}
 
 -- the three lists: each site's parent, its rank, and its two offsets to its parent
 pub record Wind : Type 0 where
@@ -10,11 +12,30 @@ pub record Wind : Type 0 where
 abbrev pub wind : List ℕ → List ℕ → List ℤ → Wind
 wind ps rs os = record { parents = ps; ranks = rs; offsets = os }
 
+-- those that the code holds
+abbrev pub wind_of : Winding → Wind
+wind_of w = wind w.parents.now w.ranks.now w.offsets.now
+
+-- the same three are lent
+abbrev pub SameLists : Winding → Winding → Type 0
+SameLists w w' = (w'.parents.ghost_name ≡ w.parents.ghost_name) × (w'.ranks.ghost_name ≡ w.ranks.ghost_name) × (w'.offsets.ghost_name ≡ w.offsets.ghost_name)
+
 -- as many ranks as sites, twice as many offsets, and no more sites than the domain has
 pub record Room (w : Wind) : Type 0 where
   pub ranks : length w.ranks ≡ length w.parents
   pub offsets : length w.offsets ≡ 2 * length w.parents
   pub few : length w.parents ≤ 16777216
+
+-- what the way q is joined by: as many ranks as sites, twice as many offsets, no more sites than the domain has, two of them, and numbers with room
+pub record Linkable (w : Wind) (q : Way) : Type 0 where
+  pub ranks : length w.ranks ≡ length w.parents
+  pub offsets : length w.offsets ≡ 2 * length w.parents
+  pub few : length w.parents ≤ 16777216
+  pub a : q.a < length w.parents
+  pub b : q.b < length w.parents
+  pub spare : get_or w.ranks q.a 0 < 255
+  pub x : nat_abs q.around.0 < 2 ^ 63
+  pub y : nat_abs q.around.1 < 2 ^ 63
 
 -- the root a comes under b, from which it lies (x, y)
 abbrev pub link : Wind → ℕ → ℕ → ℤ → ℤ → Wind

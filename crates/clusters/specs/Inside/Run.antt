@@ -1,17 +1,16 @@
 -- What the code holds after some bonds: the forest, the winding and the generator of the bonds drawn.
-use Rattle.std.specs.Prelude.{◌≡◌, Bool, true, false, List, [], ℕ, ◌+◌, ◌*◌, ◌<◌, T, length, ℤ, Float}
+use Rattle.std.specs.Prelude.{◌≡◌, Bool, true, false, List, [], ℕ, ◌+◌, ◌*◌, ◌<◌, T, length, ℤ, Float, Option, Some, None, cond}
 use Rattle.generator.specs.declared.Xoshiro256StarStar.{Xoshiro256StarStar}
 use Rattle.lattice.specs.Lattice.{sites, extent, in_domain}
 use Rattle.bonds.specs.Visit.{all_spins}
 use Rattle.graph.specs.Forest.{Bond, forest}
 use Rattle.clusters.specs.Inside.Rep.{Rep}
 use Rattle.clusters.specs.declared.winding.Marks.{Marks}
-use Rattle.clusters.specs.Inside.Sway.{Scene, Swung, marks_of, bond, next}
+use Rattle.clusters.specs.Inside.Sway.{Scene, Swung, marks_of, next}
 use Rattle.clusters.specs.declared.Action.{Action}
 use Rattle.clusters.specs.Call.{Call}
 use Rattle.clusters.specs.Observation.{two_axes}
 use Rattle.clusters.specs.Update.{bond_at, drawn}
-use Rattle.clusters.specs.declared.fk.Plane.{Plane}
 use Rattle.clusters.specs.declared.fk.Pass.{Pass}
 
 -- the five lists that the pass works on
@@ -24,6 +23,16 @@ pub record Lists : Type 0 where
 
 abbrev pub lists : List ℕ → List ℕ → List ℕ → List ℕ → List ℤ → Lists
 lists fs ks ps rs os = record { roots = fs; decisions = ks; parents = ps; ranks = rs; offsets = os }
+
+-- the extents of the first two axes, and whether there are just two
+pub record Plane : Type 0 where
+  pub ex : ℕ
+  pub ey : ℕ
+  pub two : Bool
+
+-- those of two axes
+abbrev pub plane_in : Plane → Option (ℕ × ℕ)
+plane_in pl = cond pl.two (Some (pl.ex, pl.ey)) None
 
 -- the scene of n sites on a plane, after the bonds bs
 abbrev pub scene : ℕ → Plane → List Bond → Scene
@@ -90,19 +99,19 @@ pub record Stands (c : Call) (b : ℕ) (l : Lists) (p : Pass) : Type 0 where
   pub active : p.active ≡ length (drawn c b).active
   pub joint : Joint (two_axes c.extents) (scene (sites c.extents) (plane_of c.extents) (drawn c b).active) l p.marks
 
--- bond b is next, from site to its neighbour `to`
-pub record Visit (g : Given) (o : Origin) (l : Lists) (pl : Plane) (p : Pass) (site to axis b : ℕ) : Type 0 where
+-- bond b is next, which is k
+pub record Visit (g : Given) (o : Origin) (l : Lists) (pl : Plane) (p : Pass) (k : Bond) (b : ℕ) : Type 0 where
   pub fit : Fit g o.extents
   pub plane : pl ≡ plane_of o.extents
-  pub place : bond_at o.extents b ≡ bond site to axis
+  pub place : bond_at o.extents b ≡ k
   pub below : b < sites o.extents * length o.extents
   pub here : Stands (call_of g o) b l p
 
-abbrev pub Visitable : Given → Lists → Plane → Pass → ℕ → ℕ → ℕ → ℕ → Type 0
-Visitable g l pl p site to axis b = (o : Origin) × Visit g o l pl p site to axis b
+abbrev pub Visitable : Given → Lists → Plane → Pass → Bond → ℕ → Type 0
+Visitable g l pl p k b = (o : Origin) × Visit g o l pl p k b
 
-abbrev pub Visited : Given → Lists → Lists → Plane → Pass → ℕ → ℕ → ℕ → ℕ → Pass → Type 0
-Visited g l l' pl p site to axis b r = (o : Origin) → Visit g o l pl p site to axis b → Stands (call_of g o) (b + 1) l' r
+abbrev pub Visited : Given → Lists → Lists → Plane → Pass → Bond → ℕ → Pass → Type 0
+Visited g l l' pl p k b r = (o : Origin) → Visit g o l pl p k b → Stands (call_of g o) (b + 1) l' r
 
 -- ---- the loops
 -- after b bonds, of every call with these extents

@@ -10,9 +10,9 @@ use Rattle.clusters.specs.Call.{Call, size, bonds}
 use Rattle.clusters.specs.Sizes.{four_of, descending, at_least, twentieth}
 use Rattle.clusters.specs.Observation.{two_axes}
 use Rattle.clusters.specs.Update.{drawn, active}
+use Rattle.clusters.specs.declared.winding.Marks.{Marks}
 use Rattle.clusters.specs.declared.fk.Pass.{Pass}
-use Rattle.clusters.specs.declared.fk.Plane.{Plane}
-use Rattle.clusters.specs.Inside.Run.{Given, call_of, origin, scene, plane_of, Fit}
+use Rattle.clusters.specs.Inside.Run.{Plane, Given, call_of, origin, scene, plane_of, Fit}
 
 -- after the pass, with the roots flattened
 pub record Drew (c : Call) (roots decisions : List ℕ) (p : Pass) : Type 0 where
@@ -35,6 +35,10 @@ pub record Room (g : Given) (sh : List ℕ) (pl : Plane) (fs ks ps rs : List ℕ
   pub ranks : length rs ≡ sites sh
   pub offsets : length os ≡ 2 * sites sh
 
+-- the flags, all clear but on two axes
+abbrev pub shown : Plane → Marks → Marks
+shown pl f = record { x = pl.two && f.x; y = pl.two && f.y; torn = pl.two && f.torn }
+
 -- the observation, from the counts and the pass
 abbrev pub observed_by : List ℕ → Plane → Pass → Observation
 observed_by counts pl p = record {
@@ -50,7 +54,6 @@ observed_by counts pl p = record {
 pub record Countable (roots counts hist : List ℕ) : Type 0 where
   pub counts-n : length counts ≡ length roots
   pub few : length roots ≤ 16777216
-  pub inside : (i : ℕ) → i < length roots → get_or roots i 0 < length roots
   pub hist-n : length hist ≡ length roots + 1
   pub low : (s : ℕ) → s < length hist → get_or hist s 0 ≤ 2 ^ 63
 

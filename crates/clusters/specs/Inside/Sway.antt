@@ -1,13 +1,13 @@
 -- What the code's three lists, parents, ranks and offsets, have to do with the winding of the bonds so far; and what the code answers.
-use Rattle.std.specs.Prelude.{◌≡◌, Bool, cond, not, ◌||◌, List, [], ◌∷◌, ◌++◌, ℕ, ◌+◌, ◌*◌, ◌%◌, ◌≤◌, ◌<◌, eqb, length, get_or, ℤ, pos, nat_abs, ◌+ℤ◌, ◌-ℤ◌}
+use Rattle.std.specs.Prelude.{◌≡◌, Bool, cond, not, ◌||◌, List, [], ◌∷◌, ◌++◌, Option, Some, None, ℕ, ◌+◌, ◌*◌, ◌%◌, ◌≤◌, ◌<◌, eqb, length, get_or, ℤ, pos, nat_abs, ◌+ℤ◌, ◌-ℤ◌}
 use Rattle.graph.specs.Forest.{Bond, Forest, root_of, forest}
 use Rattle.graph.specs.Winding.{Winding, offset, along, around, winding}
 use Rattle.graph.specs.Walk.{Within}
-use Rattle.clusters.specs.declared.winding.Closing.{Closing}
-use Rattle.clusters.specs.declared.winding.Closing.TheVariants.{Joined, Closed}
 use Rattle.clusters.specs.declared.winding.Found.{Found}
 use Rattle.clusters.specs.declared.winding.Marks.{Marks}
 use Rattle.clusters.specs.declared.winding.Way.{Way}
+use Rattle.clusters.specs.declared.winding.Bond.{Bond as CodeBond}
+use Rattle.clusters.specs.declared.winding.Winding.{Winding as CodeWinding}
 use Rattle.clusters.specs.Inside.Links.{Hangs}
 
 -- n sites, the extents of the two axes, and the active bonds so far
@@ -34,6 +34,9 @@ next k c = record { n = k.n; ex = k.ex; ey = k.ey; bonds = k.bonds ++ c ∷ [] }
 abbrev pub bond : ℕ → ℕ → ℕ → Bond
 bond s t d = record { x = s; y = t; axis = d }
 
+abbrev pub bond_of : CodeBond → Bond
+bond_of c = bond c.x c.y c.axis
+
 -- a site's own displacement from its parent, along axis d
 abbrev pub on : List ℤ → ℕ → ℕ → ℤ
 on os d i = get_or os (2 * i + d) (pos 0)
@@ -52,8 +55,18 @@ pub record Swung (k : Scene) (ps rs : List ℕ) (os : List ℤ) : Type 0 where
   pub x : Swings k.n ps os 0 (xs k)
   pub y : Swings k.n ps os 1 (ys k)
 
-abbrev pub Held : List ℕ → List ℕ → List ℤ → Type 0
-Held ps rs os = (k : Scene) × Swung k ps rs os
+-- the code's lists stand for the scene
+abbrev pub Sways : Scene → CodeWinding → Type 0
+Sways k w = Swung k w.parents.now w.ranks.now w.offsets.now
+
+abbrev pub Held : CodeWinding → Type 0
+Held w = (k : Scene) × Sways k w
+
+-- the bond is between two of the sites
+pub record Bondable (w : CodeWinding) (c : CodeBond) : Type 0 where
+  pub held : Held w
+  pub x : c.x < length w.parents.now
+  pub y : c.y < length w.parents.now
 
 -- ---- the lookup
 abbrev pub moved : Found → ℤ → ℤ → Found
@@ -62,8 +75,8 @@ moved f x y = record { root = f.root; x = x +ℤ f.x; y = y +ℤ f.y }
 abbrev pub found : Scene → ℕ → Found
 found k s = record { root = root_of (trees k) s; x = offset (xs k) s; y = offset (ys k) s }
 
-abbrev pub FoundAt : List ℕ → List ℕ → List ℤ → ℕ → Found → Type 0
-FoundAt ps rs os s r = (k : Scene) → Swung k ps rs os → r ≡ found k s
+abbrev pub FoundAt : CodeWinding → ℕ → Found → Type 0
+FoundAt w s r = (k : Scene) → Sways k w → r ≡ found k s
 
 -- ---- a bond
 abbrev pub far : ℕ
@@ -72,26 +85,39 @@ far = 16777216
 abbrev pub rounded : ℤ → ℤ → Bool → ℤ
 rounded f g on = f -ℤ g +ℤ cond on (pos 1) (pos 0)
 
+-- a place no farther from its root than there are sites
+pub record Near (f : Found) : Type 0 where
+  pub x : nat_abs f.x ≤ far
+  pub y : nat_abs f.y ≤ far
+
+-- from the places of its two sites
+abbrev pub around_of : Found → Found → ℕ → Way
+around_of f g d = record {
+  a = f.root;
+  b = g.root;
+  around = (rounded f.x g.x (eqb d 0), rounded f.y g.y (eqb d 1));
+}
+
 abbrev pub way_of : Scene → Bond → Way
 way_of k c = record {
   a = root_of (trees k) c.x;
   b = root_of (trees k) c.y;
-  x = around (along 0) k.ex (xs k) c;
-  y = around (along 1) k.ey (ys k) c;
+  around = (around (along 0) k.ex (xs k) c, around (along 1) k.ey (ys k) c);
 }
 
-abbrev pub WayAt : List ℕ → List ℕ → List ℤ → Bond → Way → Type 0
-WayAt ps rs os c r = (k : Scene) → Swung k ps rs os → r ≡ way_of k c
+abbrev pub WayAt : CodeWinding → CodeBond → Way → Type 0
+WayAt w c r = (k : Scene) → Sways k w → r ≡ way_of k (bond_of c)
 
-abbrev pub closing : Way → Closing
-closing q = cond (eqb q.a q.b) (Closed q.x q.y) Joined
+-- the way around, where the bond closes a loop
+abbrev pub closing : Way → Option (ℤ × ℤ)
+closing q = cond (eqb q.a q.b) (Some q.around) None
 
-pub record Unites (k : Scene) (c : Bond) (ps rs : List ℕ) (os : List ℤ) (r : Closing) : Type 0 where
-  pub swung : Swung (next k c) ps rs os
+pub record Unites (k : Scene) (c : Bond) (w : CodeWinding) (r : Option (ℤ × ℤ)) : Type 0 where
+  pub swung : Sways (next k c) w
   pub answer : r ≡ closing (way_of k c)
 
-abbrev pub United : List ℕ → List ℕ → List ℤ → List ℕ → List ℕ → List ℤ → Bond → Closing → Type 0
-United ps rs os ps' rs' os' c r = (k : Scene) → Swung k ps rs os → Unites k c ps' rs' os' r
+abbrev pub United : CodeWinding → CodeWinding → CodeBond → Option (ℤ × ℤ) → Type 0
+United w w' c r = (k : Scene) → Sways k w → Unites k (bond_of c) w' r
 
 -- ---- the flags
 abbrev pub away : ℤ → Bool
@@ -100,16 +126,16 @@ away d = not (eqb (nat_abs d) 0)
 abbrev pub off : ℤ → ℕ → Bool
 off d e = not (eqb (nat_abs d % e) 0)
 
-abbrev pub marks : Marks → Closing → ℕ → ℕ → Marks
-marks f Joined ex ey = f
-marks f (Closed dx dy) ex ey = record { x = f.x || away dx; y = f.y || away dy; torn = f.torn || (off dx ex || off dy ey) }
+abbrev pub marks : Marks → Option (ℤ × ℤ) → ℕ → ℕ → Marks
+marks f None ex ey = f
+marks f (Some (dx, dy)) ex ey = record { x = f.x || away dx; y = f.y || away dy; torn = f.torn || (off dx ex || off dy ey) }
 
 abbrev pub marks_of : Scene → Marks
 marks_of k = record { x = (xs k).wraps; y = (ys k).wraps; torn = (xs k).torn || (ys k).torn }
 
-pub record Bonds (k : Scene) (c : Bond) (ps rs : List ℕ) (os : List ℤ) (r : Marks) : Type 0 where
-  pub swung : Swung (next k c) ps rs os
+pub record Bonds (k : Scene) (c : Bond) (w : CodeWinding) (r : Marks) : Type 0 where
+  pub swung : Sways (next k c) w
   pub answer : r ≡ marks_of (next k c)
 
-abbrev pub Bonded : List ℕ → List ℕ → List ℤ → List ℕ → List ℕ → List ℤ → Bond → ℕ → ℕ → Marks → Marks → Type 0
-Bonded ps rs os ps' rs' os' c ex ey f r = (k : Scene) → Swung k ps rs os → k.ex ≡ ex → k.ey ≡ ey → f ≡ marks_of k → Bonds k c ps' rs' os' r
+abbrev pub Bonded : CodeWinding → CodeWinding → CodeBond → ℕ → ℕ → Marks → Marks → Type 0
+Bonded w w' c ex ey f r = (k : Scene) → Sways k w → k.ex ≡ ex → k.ey ≡ ey → f ≡ marks_of k → Bonds k (bond_of c) w' r

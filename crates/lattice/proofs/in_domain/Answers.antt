@@ -1,30 +1,27 @@
--- `lattice::in_domain` meets its contract: each `return` rewrites with the tests that led there.
-use Rattle.std.proofs.Common.{sym, ap, le-leb, ◌∙◌}
+-- `lattice::in_domain` meets its contract: each test that fails leaves the definition false.
+use Rattle.std.proofs.Common.{sym, ap, le-leb, ◌∙◌, ◌≡◌, ◌≤◌, true, false, length, rules}
 use Rattle.std.proofs.Math.Bool.{and-false}
 use Rattle.std.proofs.lemmas.Bool.{lt-leb}
-use Rattle.lattice.specs.Lattice.{in_domain}
+use mathlib.Core.Logic.{⊎_elim}
+use Rattle.lattice.specs.Lattice.{in_domain, in_range}
 use Rattle.lattice.specs.Shape.{shape_for}
 use Rattle.lattice.specs.declared.Shape.{Shape}
 use Rattle.lattice.proofs.in_domain.Goals as goal
-
-pub returns-then-extents-lt1 : goal.returns-then-extents-lt1
-unfolding in_domain
-returns-then-extents-lt1 c = simp (lt-leb _ _ c.if-extents-lt1.true)
-
-pub returns-then-extents-gt4 : goal.returns-then-extents-gt4
-unfolding in_domain
-returns-then-extents-gt4 c = simp (lt-leb _ _ c.if-extents-gt4.true, and-false)
+use Rattle.lattice.proofs.in_domain.Goals.{then-extents-le4, else-extents-le4}
 
 pub returns-then-ranged : goal.returns-then-ranged
 unfolding in_domain shape_for
 returns-then-ranged c =
-    simp (
-      ap (λ (s : Shape). s.sites) c.shape_of.ensures,
-      le-leb _ _ c.if-extents-lt1.false,
-      le-leb _ _ c.if-extents-gt4.false,
-      sym c.ranged.ensures ∙ c.if-ranged.true,
-    )
+    let r : in_range c.args.extents.now ≡ true = search rules in
+    let a : 1 ≤ length c.args.extents.now = search rules in
+    let b : length c.args.extents.now ≤ 4 = search rules in
+    simp (ap (λ (s : Shape). s.sites) c.shape_of.ensures, le-leb _ _ a, le-leb _ _ b, r)
 
 pub returns-else-ranged : goal.returns-else-ranged
 unfolding in_domain
-returns-else-ranged c = simp (sym c.ranged.ensures ∙ c.if-ranged.false, and-false)
+returns-else-ranged c = c.if-ranged.false ∙ sym (elim c.if-extents-le4.branch as (λ b. in_domain c.args.extents.now ≡ false) [
+  | then-extents-le4 w ↦ simp (sym w.ranged.ensures ∙ sym w.value-is ∙ c.if-ranged.false, and-false)
+  | else-extents-le4 w ↦ ⊎_elim
+      (λ p. simp (lt-leb (length c.args.extents.now) 4 p.1, and-false))
+      (λ q. simp (lt-leb 1 (length c.args.extents.now) q)) w.if-extents-le4.either
+])

@@ -1,18 +1,18 @@
--- `lattice::ranged` meets its contract.
-use Rattle.std.proofs.Common.{◌∙◌, sym, ap, rules, drop_of_length-le}
+-- `lattice::ranged` meets its contract: the definition is the test of all extents.
+use Rattle.std.proofs.Common.{◌≡◌, ◌∙◌, refl, ap, List, [], ◌∷◌, ◌&&◌, ℕ, rules, tests}
+use Rattle.std.specs.Prelude.{leb}
+use Rattle.std.specs.List.{list_all}
+use Rattle.std.proofs.lemmas.Iterator.{YieldsList-from_slice}
+use Rattle.std.proofs.lemmas.Iterator.Search.{all_from_yields_List}
 use Rattle.lattice.specs.Lattice.{in_range}
-use Rattle.lattice.proofs.Laws.Neighbours.{range-step, range-low, range-high}
 use Rattle.lattice.proofs.ranged.Goals as goal
 
-pub returns-then-extents-i-lt1 : goal.returns-then-extents-i-lt1
-returns-then-extents-i-lt1 c = sym (c.loop-i.invariant.1 ∙ range-low _ _ c.loop-i-test.true c.if-extents-i-lt1.true)
-
-pub returns-then-extents-i-gt4096 : goal.returns-then-extents-i-gt4096
-returns-then-extents-i-gt4096 c = sym (c.loop-i.invariant.1 ∙ range-high c.args.extents.now c.loop-i.i (search rules) c.if-extents-i-gt4096.true)
-
-pub loop-i-preserved : goal.loop-i-preserved
-loop-i-preserved c = (search rules, c.loop-i.invariant.1 ∙ range-step c.args.extents.now c.loop-i.i (search rules) (search rules) (search rules))
+all-in : (sh : List ℕ) → list_all (λ e. leb 1 e && leb e 4096) sh ≡ in_range sh
+unfolding in_range
+all-in [] = refl
+all-in (e ∷ es) = ap (λ b. leb 1 e && leb e 4096 && b) (all-in es)
 
 pub returns : goal.returns
-unfolding in_range
-returns c = sym (c.loop-i.invariant.1 ∙ ap in_range (drop_of_length-le _ c.loop-i-test.false))
+returns c =
+    all_from_yields_List (λ e. leb 1 e && leb e 4096) _ _ _ c.all.ensures.ran (YieldsList-from_slice c.args.extents.now cc) (λ x b q k. search (rules, tests))
+    ∙ all-in c.args.extents.now

@@ -1,10 +1,6 @@
 -- The invariant is `Flipping`: no later coin changes a spin that was passed.
-use Rattle.std.proofs.Common.{◌-◌, length}
 use Rattle.clusters.proofs.Laws.Turns.{Flipping}
 use Rattle.clusters.proofs.coins.flip.Given as goal
 
 abbrev pub invariant-loop-i : goal.invariant-loop-i
-invariant-loop-i l = Flipping l.roots l.initial.decisions l.initial.state l.initial.spins l.decisions l.state l.spins l.i
-
-abbrev pub decreases-loop-i : goal.decreases-loop-i
-decreases-loop-i l = length l.roots - l.i
+invariant-loop-i l = Flipping l.roots.row.now l.initial.decisions l.initial.state l.initial.spins l.decisions l.state l.spins l.i

@@ -4,15 +4,15 @@ use Rattle.clusters.proofs.utils.tally.Goals as goal
 
 pub overflow_add-counts : goal.overflow_add-counts
 overflow_add-counts c =
-    let lt = c.loop-i-test.true in
-    let h = c.requires.roots_in_bounds c.loop-i.i lt in
-    omega (arith, tallied-fits c.loop-i.invariant lt h)
+    let lt = c.loop-r-test.true in
+    let h = c.args.roots.inside c.loop-r.r-index lt in
+    omega (arith, tallied-fits c.loop-r.invariant lt h)
 
-pub loop-i-preserved : goal.loop-i-preserved
-loop-i-preserved c =
-    let lt = c.loop-i-test.true in
-    let h = c.requires.roots_in_bounds c.loop-i.i lt in
-    tallied-on c.loop-i.invariant lt h
+pub loop-r-preserved : goal.loop-r-preserved
+loop-r-preserved c =
+    let lt = c.loop-r-test.true in
+    let h = c.args.roots.inside c.loop-r.r-index lt in
+    tallied-on c.loop-r.invariant lt h
 
 pub returns : goal.returns
-returns c = tallied-all c.loop-i.invariant c.loop-i-test.false
+returns c = tallied-all c.loop-r.invariant c.loop-r-test.false

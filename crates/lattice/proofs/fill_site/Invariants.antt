@@ -1,0 +1,12 @@
+-- The invariant: the entries before this axis's are the tables'.
+use Rattle.std.proofs.Common.{◌≡◌, ◌+◌, ◌*◌, take, length}
+use Rattle.lattice.specs.Lattice.{fwd_table, bwd_table}
+use Rattle.lattice.specs.Shape.{extents_of}
+use Rattle.lattice.proofs.fill_site.Given as goal
+
+abbrev pub invariant-loop-axis : goal.invariant-loop-axis
+invariant-loop-axis l =
+    (take (l.site * l.lattice.shape.axes + l.axis) l.up ≡ take (l.site * l.lattice.shape.axes + l.axis) (fwd_table (extents_of l.lattice.shape)))
+    × (take (l.site * l.lattice.shape.axes + l.axis) l.down ≡ take (l.site * l.lattice.shape.axes + l.axis) (bwd_table (extents_of l.lattice.shape)))
+    × (length l.up ≡ l.lattice.shape.sites * l.lattice.shape.axes)
+    × (length l.down ≡ l.lattice.shape.sites * l.lattice.shape.axes)
