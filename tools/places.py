@@ -22,9 +22,7 @@ def sources(commit):
 def functions(text):
     """Name, parameters, clauses and body of each function with a body."""
     for m in re.finditer(r'^( *)(?:pub(?:\(crate\))? )?(?:final )?fn (\w+)[^(\n]*\(', text, re.M):
-        end = text.index(')', m.end())
-        depth = 1
-        end = m.end()
+        depth, end = 1, m.end()
         while depth:
             depth += {'(': 1, ')': -1}.get(text[end], 0)
             end += 1
@@ -56,7 +54,7 @@ def show(point, what, places):
 def main():
     commit = sys.argv[1] if len(sys.argv) > 1 else ''
     enums, flags, loops, thin, long, switches, arrays = [], [], [], [], [], [], []
-    shapes, clauses = {}, {}
+    shapes, asked, given = {}, {}, {}
     for name, text in sources(commit):
         where = name.replace('crates/', '').replace('/src', '').replace('.rt', '')
         text = text.split('#[cfg(test)]')[0]
@@ -74,8 +72,9 @@ def main():
                 long.append(f'{where} {fn} {len(parameters(params))}')
             if body.count('\n') == 2 and shape(body).count('x') <= 3 and '(' not in body and '{' not in body:
                 thin.append(f'{where} {fn}: {body.strip()}')
-            for m in re.finditer(r'requires \w* ?\{ (.*) \}$', claims, re.M):
-                clauses.setdefault(re.sub(r'\.(old|now)\b', '', m[1]), []).append(f'{where} {fn}')
+            for m in re.finditer(r'(requires|ensures) \w* ?\{ (.*) \}$', claims, re.M):
+                facts = asked if m[1] == 'requires' else given
+                facts.setdefault(re.sub(r'\.(old|new|now|entry)\b', '', m[2]), []).append(f'{where} {fn}')
     show(1, 'enums', enums)
     show(1, 'flags in structs', flags)
     twins = [' = '.join(p) for s, p in shapes.items() if len(p) > 1 and (len(s) > 40 or s.startswith('struct x : x , x : x ,'))]
@@ -83,7 +82,8 @@ def main():
     show(3, 'while and loop', loops)
     show(4, 'functions that are one operator, cast or field', thin)
     show(5, 'functions of more than five parameters', long)
-    show(5, 'clauses that three functions or more require', [f'{c}: {", ".join(p)}' for c, p in clauses.items() if len(p) > 2])
+    for what, facts in (('require', asked), ('ensure', given)):
+        show(5, f'clauses that three functions or more {what}', [f'{c}: {", ".join(p)}' for c, p in facts.items() if len(p) > 2])
     show(6, 'structs with several arrays or slices', arrays)
     show(7, 'switches on a step, tables of functions', switches)
 

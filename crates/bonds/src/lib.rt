@@ -72,7 +72,7 @@ fn place_of(weights: &[f32], weight: f32) -> Option<usize>
     weights.iter().position(|w| *w == weight)
 }
 
-// A table of weight classes: the weights, and the threshold of each at the same place.
+// A table of weight classes: the weights, and the threshold of each at the same place, side by side as they are lent.
 #[derive(Clone, Copy)]
 pub struct Classes<'a> {
     pub weights: &'a [f32],

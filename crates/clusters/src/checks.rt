@@ -10,7 +10,7 @@ use bonds::{Classes, Tile};
 use domain::{Entries, Refusal, Spins};
 use lattice::Lattice;
 
-// The lengths of what is lent.
+// The lengths of what is lent, one list as `lengths_ok` has it.
 #[derive(Clone, Copy)]
 pub(crate) struct Lens {
     pub(crate) spins: usize,

@@ -1,6 +1,6 @@
 // One accepted call: the pass over the bonds, the tallies, the observer's memory left zero, and the action.
 ghost use Rattle.std.specs.Prelude.{◌≡◌, ◌<◌, ◌≤◌, ◌^◌, ℕ, length, get_or, replicate, T, pos};
-ghost use Rattle.lattice.specs.Shape.{extents_of, rests_for};
+ghost use Rattle.lattice.specs.Shape.{extents_of};
 ghost use Rattle.bonds.specs.Visit.{all_spins};
 ghost use Rattle.graph.specs.Forest.{up_from};
 ghost use Rattle.clusters.specs.Sizes.{raised};
@@ -18,7 +18,7 @@ use crate::winding::{Bond, Marks, Winding};
 use crate::{Action, Flags, Observation, coins, utils};
 use bonds::Activation;
 use generator::Xoshiro256StarStar;
-use lattice::Lattice;
+use lattice::{Lattice, Site};
 
 // The generator, the number of active bonds, and the flags so far.
 #[derive(Clone, Copy)]
@@ -40,7 +40,7 @@ fn plane_of(lattice: &Lattice) -> Option<(u64, u64)>
     }
 }
 
-// What a pass writes: the links of the forest, and the winding.
+// What a pass writes: the links of the forest, and the winding. Each step says that it leaves the same slices here (`SameLent`).
 #[derive(Drop)]
 pub(crate) struct Lists<'a, 'b, 'c, 'd> {
     pub(crate) links: &'a mut Links<'b>,
@@ -81,22 +81,22 @@ impl Lists<'_, '_, '_, '_> {
     }
 
     // The bonds of one site, direction by direction.
-    fn visit_site(&mut self, input: &Input<'_>, site: usize, rests: &[usize; 4], pass: Pass) -> Pass
-        requires rests_value { rests.now ≡ rests_for (extents_in input.now) site }
-        requires site_ready { SiteReady (given_of input.now) (extents_in input.now) (lists_of self.old) (plane_of (extents_in input.now)) pass site }
+    fn visit_site(&mut self, input: &Input<'_>, site: &Site<'_>, pass: Pass) -> Pass
+        requires lattice_is { site.now.lattice.now ≡ input.now.lattice }
+        requires site_ready { SiteReady (given_of input.now) (extents_in input.now) (lists_of self.old) (plane_of (extents_in input.now)) pass site.now.index }
         ensures same { SameLent self.old self.new }
-        ensures done { SiteDone (given_of input.now) (extents_in input.now) (lists_of self.old) (lists_of self.new) (plane_of (extents_in input.now)) pass site result }
+        ensures done { SiteDone (given_of input.now) (extents_in input.now) (lists_of self.old) (lists_of self.new) (plane_of (extents_in input.now)) pass site.now.index result }
     {
         let lattice = &input.lattice;
         let mut pass = pass;
         for axis in 0..lattice.shape.axes {
-            let to = lattice.place(axis, site, rests).ahead();
+            let to = site.place(axis).ahead();
             let bond = Bond {
-                x: site,
+                x: site.index,
                 y: to,
                 axis,
             };
-            let index = site * lattice.shape.axes + axis;
+            let index = site.index * lattice.shape.axes + axis;
             pass = self.visit(input, bond, index, pass);
         }
         pass
@@ -113,11 +113,10 @@ impl Lists<'_, '_, '_, '_> {
             active: 0,
             marks: Marks::default(),
         };
-        let mut rests = [0usize; 4];
-        for site in 0..input.lattice.shape.sites {
-            pass = self.visit_site(input, site, &rests, pass);
-            let next = input.lattice.next_rests(site, &rests);
-            rests = next;
+        let mut site = input.lattice.first();
+        for _ in 0..input.lattice.shape.sites {
+            pass = self.visit_site(input, &site, pass);
+            site = site.next();
         }
         pass
     }
@@ -134,7 +133,7 @@ impl Lists<'_, '_, '_, '_> {
     }
 }
 
-// Every site its own root and its own parent.
+// Every site its own root and its own parent. The slices are parameters, as at `fk_update`.
 fn start(
     roots: &mut [u32],
     decisions: &mut [u8],
@@ -222,7 +221,7 @@ pub(crate) fn tallies(
     }
 }
 
-// The observer's memory, all zero.
+// The observer's memory, all zero. The slices are parameters, as at `fk_update`.
 pub(crate) fn clean(parents: &mut [u32], ranks: &mut [u8], offsets: &mut [i64], marks: &mut [u8])
     ensures parents { parents.new ≡ replicate (length parents.old) 0 }
     ensures ranks { ranks.new ≡ replicate (length ranks.old) 0 }

@@ -35,13 +35,14 @@ pub struct Top {
     pub fourth: usize,
 }
 
-// The winding flags, for axis 0 and axis 1.
+// The winding flags, for axis 0 and axis 1, as `observation` has them.
 #[derive(Clone, Copy)]
 pub struct Flags {
     pub x: bool,
     pub y: bool,
 }
 
+// What a call has seen of the tile: `observation` speaks of each field.
 #[derive(Clone, Copy)]
 pub struct Observation {
     pub components: usize,

@@ -2,7 +2,9 @@
 ghost use Rattle.std.specs.Prelude.{◌≡◌, ◌<◌, ◌≤◌, ◌^◌, length, get_or};
 ghost use Rattle.clusters.specs.Inside.Rep.{Valid, Found, Climbed, Linked, Joined, SameLinks, Settled, Flattened};
 
-// Each site's link, itself at a root, and its rank. `Valid` is a clause and no ghost field, which has to hold at each write: `link` makes two.
+// Each site's link, itself at a root, and its rank, side by side as the buffers are lent. `Valid` is a clause and no ghost field, which has to
+// hold at each write: `link` makes two. Bounds by the slices are clauses too, since the slices are the caller's, and each step says that it
+// leaves the same ones here (`SameLinks`).
 #[derive(Drop)]
 pub(crate) struct Links<'a> {
     pub(crate) parent: &'a mut [u32],

@@ -1,5 +1,5 @@
-// The counts of a forest, and plain fills.
-ghost use Rattle.std.specs.Prelude.{◌≡◌, ◌<◌, ◌≤◌, ◌^◌, ℕ, ◌+◌, length, get_or, replicate, cond, leb, pos};
+// The counts of a forest and what they say, and links as they begin.
+ghost use Rattle.std.specs.Prelude.{◌≡◌, ◌<◌, ◌≤◌, ◌^◌, ℕ, ◌+◌, length, get_or};
 ghost use Rattle.graph.specs.Forest.{up_from, filled};
 ghost use Rattle.clusters.specs.Sizes.{raised, at_least, twentieth, descending, four_of};
 ghost use Rattle.clusters.specs.Inside.Bare.{sizes_of, noted};
@@ -18,17 +18,6 @@ pub(crate) fn own(parent: &mut [u32])
     }
 }
 
-// The counts, which are 0, become the size at each root.
-fn tally(roots: Roots, counts: &mut [u32])
-    requires counts_value { counts.old ≡ replicate (length roots.row.now) 0 }
-    requires few { length roots.row.now < 2 ^ 32 }
-    ensures { counts.new ≡ sizes_of roots.entry.row.now }
-{
-    for r in roots.row {
-        counts[*r as usize] += 1;
-    }
-}
-
 // How many counts are t or more.
 pub(crate) fn at_least(counts: &[u32], t: usize) -> usize
     ensures { result ≡ at_least t counts.now }
@@ -43,7 +32,9 @@ pub(crate) fn count_roots(roots: Roots, counts: &mut [u32])
     ensures { counts.new ≡ sizes_of roots.entry.row.now }
 {
     counts.fill(0);
-    tally(roots, counts);
+    for r in roots.row {
+        counts[*r as usize] += 1;
+    }
 }
 
 // How many components.

@@ -12,7 +12,7 @@ pub(crate) struct Bond {
     pub(crate) axis: usize,
 }
 
-// The flags of the two axes, and torn.
+// The flags of the two axes, and torn: side by side, since `Flags` in here would be taken apart and built again at each bond.
 #[derive(Clone, Copy, Default)]
 pub(crate) struct Marks {
     pub(crate) x: bool,
@@ -83,8 +83,8 @@ impl Found {
     }
 }
 
-// Each site's parent, its rank, and its two offsets from its parent. `Held` is a clause and no ghost field, which has to hold at each write:
-// `hang` makes three.
+// Each site's parent, its rank, and its two offsets from its parent, side by side as the buffers are lent. `Held`, in `Bondable`, is a clause
+// and no ghost field, which has to hold at each write: `hang` makes three. Each step says that it leaves the same slices here (`SameLists`).
 #[derive(Drop)]
 pub(crate) struct Winding<'a> {
     pub(crate) parents: &'a mut [u32],

@@ -28,7 +28,7 @@ pub enum Refusal {
 }
 
 impl Refusal {
-    // The number that the case has in a reply.
+    // The number that the case has in a reply: `number_of` of the rules.
     pub fn number(self) -> u64
         ensures { result ≡ number_of self }
     {
@@ -47,8 +47,7 @@ impl Refusal {
         }
     }
 
-    // The entry that is refused, and 0 where there is none.
-    // 0 where a refusal has no place: so `place_of` of the rules says.
+    // The entry that is refused, and 0 where there is none: `place_of` of the rules.
     pub fn place(self) -> usize
         ensures { result ≡ place_of self }
     {

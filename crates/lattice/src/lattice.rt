@@ -1,9 +1,9 @@
-// A shape that has passed its check, and the places of its sites.
-ghost use Rattle.std.specs.Prelude.{◌≡◌, true, false, ◌+◌, ◌<◌, IfOk, IfErr};
-ghost use Rattle.lattice.specs.Lattice.{extent, stride, in_domain};
-ghost use Rattle.lattice.specs.Shape.{shape_for, extents_of, Good, rests_for};
+// A shape that has passed its check, and its first site.
+ghost use Rattle.std.specs.Prelude.{◌≡◌, true, false, IfOk, IfErr};
+ghost use Rattle.lattice.specs.Lattice.{in_domain};
+ghost use Rattle.lattice.specs.Shape.{shape_for, Good};
 
-use crate::{Place, Shape, in_domain, shape_of};
+use crate::{Shape, Site, in_domain, shape_of};
 use domain::Refusal;
 
 // The shape of extents in the domain.
@@ -26,33 +26,15 @@ impl Lattice {
         Ok(Lattice { shape })
     }
 
-    // A site on one of the four axes, from its rests: past the last axis, extents and strides are 1.
-    pub fn place(&self, axis: usize, site: usize, rests: &[usize; 4]) -> Place
-        requires axis_lt_4 { axis < 4 }
-        requires site_lt_sites { site < self.now.shape.sites }
-        requires rests_value { rests.now ≡ rests_for (extents_of self.now.shape) site }
-        ensures extent_is { result.extent ≡ extent (extents_of self.now.shape) axis }
-        ensures stride_is { result.stride ≡ stride (extents_of self.now.shape) axis }
-        ensures site_is { result.site ≡ site }
+    // The first site: each of its rests is 0.
+    pub fn first(&self) -> Site<'_>
+        ensures lattice_is { result.lattice.now ≡ self.now }
+        ensures index_is { result.index ≡ 0 }
     {
-        Place {
-            extent: self.shape.extents[axis],
-            stride: self.shape.strides[axis],
-            site,
-            rest: rests[axis],
+        Site {
+            lattice: self,
+            index: 0,
+            rests: [0; 4],
         }
-    }
-
-    // The rests of the next site, from those of this one: one for each of the four axes.
-    pub fn next_rests(&self, site: usize, rests: &[usize; 4]) -> [usize; 4]
-        requires site_lt_sites { site < self.now.shape.sites }
-        requires rests_value { rests.now ≡ rests_for (extents_of self.now.shape) site }
-        ensures { result ≡ rests_for (extents_of self.now.shape) (site + 1) }
-    {
-        let r0 = self.place(0, site, rests).next_rest();
-        let r1 = self.place(1, site, rests).next_rest();
-        let r2 = self.place(2, site, rests).next_rest();
-        let r3 = self.place(3, site, rests).next_rest();
-        [r0, r1, r2, r3]
     }
 }

@@ -3,16 +3,18 @@
 
 mod lattice;
 mod place;
+mod site;
 
 ghost use Rattle.std.specs.Prelude.{◌≡◌, true, ◌+◌, ◌*◌, ◌≤◌, ◌<◌, length, set, take};
 ghost use Rattle.lattice.specs.Lattice.{extent, in_range, ahead, behind, in_domain, fwd_table, bwd_table};
 ghost use Rattle.domain.specs.Promise.{Promised};
 ghost use Rattle.lattice.specs.Tables.{given, left, outcome};
-ghost use Rattle.lattice.specs.Shape.{shape_for, extents_of, rests_for};
+ghost use Rattle.lattice.specs.Shape.{shape_for, extents_of};
 
 use domain::Refusal;
 pub use lattice::Lattice;
 pub use place::Place;
+pub use site::Site;
 
 // A shape in the domain: past the last axis, extents and strides are 1. Two arrays, as `shape_for` and `extents_of` speak of two lists.
 #[derive(Clone, Copy)]
@@ -67,7 +69,8 @@ pub fn in_domain(extents: &[usize]) -> bool
         && shape_of(extents).sites <= 16777216
 }
 
-// Both neighbours of a place, into entry k of the tables.
+// Both neighbours of a place, into entry k of the tables. `up` and `down` stay parameters here and below: a struct would add to each step a
+// clause that it holds the same two.
 fn put_entry(place: Place, k: usize, up: &mut [u32], down: &mut [u32])
     requires { (k < length up.old) × (k < length down.old) }
     ensures up_after { up.new ≡ set up.old k (ahead place.extent place.stride place.site) }
@@ -78,34 +81,33 @@ fn put_entry(place: Place, k: usize, up: &mut [u32], down: &mut [u32])
 }
 
 // The entries of one site, axis after axis: those of the sites before it stand.
-fn fill_site(lattice: &Lattice, site: usize, rests: &[usize; 4], up: &mut [u32], down: &mut [u32])
-    requires site_lt_sites { site < lattice.now.shape.sites }
-    requires rests_value { rests.now ≡ rests_for (extents_of lattice.now.shape) site }
-    requires up_len { length up.old ≡ lattice.now.shape.sites * lattice.now.shape.axes }
-    requires down_len { length down.old ≡ lattice.now.shape.sites * lattice.now.shape.axes }
-    requires up_before { take (site * lattice.now.shape.axes) up.old ≡ take (site * lattice.now.shape.axes) (fwd_table (extents_of lattice.now.shape)) }
-    requires down_before { take (site * lattice.now.shape.axes) down.old ≡ take (site * lattice.now.shape.axes) (bwd_table (extents_of lattice.now.shape)) }
-    ensures up_after { take ((site + 1) * lattice.now.shape.axes) up.new ≡ take ((site + 1) * lattice.now.shape.axes) (fwd_table (extents_of lattice.now.shape)) }
-    ensures down_after { take ((site + 1) * lattice.now.shape.axes) down.new ≡ take ((site + 1) * lattice.now.shape.axes) (bwd_table (extents_of lattice.now.shape)) }
+fn fill_site(site: &Site<'_>, up: &mut [u32], down: &mut [u32])
+    requires index_lt_sites { site.now.index < site.now.lattice.now.shape.sites }
+    requires up_len { length up.old ≡ site.now.lattice.now.shape.sites * site.now.lattice.now.shape.axes }
+    requires down_len { length down.old ≡ site.now.lattice.now.shape.sites * site.now.lattice.now.shape.axes }
+    requires up_before { take (site.now.index * site.now.lattice.now.shape.axes) up.old ≡ take (site.now.index * site.now.lattice.now.shape.axes) (fwd_table (extents_of site.now.lattice.now.shape)) }
+    requires down_before { take (site.now.index * site.now.lattice.now.shape.axes) down.old ≡ take (site.now.index * site.now.lattice.now.shape.axes) (bwd_table (extents_of site.now.lattice.now.shape)) }
+    ensures up_after { take ((site.now.index + 1) * site.now.lattice.now.shape.axes) up.new ≡ take ((site.now.index + 1) * site.now.lattice.now.shape.axes) (fwd_table (extents_of site.now.lattice.now.shape)) }
+    ensures down_after { take ((site.now.index + 1) * site.now.lattice.now.shape.axes) down.new ≡ take ((site.now.index + 1) * site.now.lattice.now.shape.axes) (bwd_table (extents_of site.now.lattice.now.shape)) }
 {
-    let first = site * lattice.shape.axes;
-    for axis in 0..lattice.shape.axes {
-        put_entry(lattice.place(axis, site, rests), first + axis, up, down);
+    let axes = site.lattice.shape.axes;
+    let first = site.index * axes;
+    for axis in 0..axes {
+        put_entry(site.place(axis), first + axis, up, down);
     }
 }
 
-// The tables, site after site. The rests go along with the site, so that nothing is divided.
+// The tables, site after site.
 fn fill(lattice: &Lattice, up: &mut [u32], down: &mut [u32])
     requires up_len { length up.old ≡ lattice.now.shape.sites * lattice.now.shape.axes }
     requires down_len { length down.old ≡ lattice.now.shape.sites * lattice.now.shape.axes }
     ensures up_after { up.new ≡ fwd_table (extents_of lattice.now.shape) }
     ensures down_after { down.new ≡ bwd_table (extents_of lattice.now.shape) }
 {
-    let mut rests = [0usize; 4];
-    for site in 0..lattice.shape.sites {
-        fill_site(lattice, site, &rests, up, down);
-        let next = lattice.next_rests(site, &rests);
-        rests = next;
+    let mut site = lattice.first();
+    for _ in 0..lattice.shape.sites {
+        fill_site(&site, up, down);
+        site = site.next();
     }
 }
 

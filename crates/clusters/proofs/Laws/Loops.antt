@@ -1,11 +1,9 @@
 -- The bonds of a site, one after the other, and the sites.
-use Rattle.std.specs.Prelude.{◌≡◌, refl, false, List, [], ◌∷◌, ℕ, ◌+◌, ◌*◌, ◌<◌, ◌≤◌, length}
+use Rattle.std.specs.Prelude.{◌≡◌, refl, false, List, ℕ, ◌+◌, ◌*◌, ◌<◌, ◌≤◌, length}
 use Rattle.std.proofs.Common.{sym, ◌∙◌, subst, add-mul, one-mul, add-zero, zero-mul, add_assoc, arith}
 use Rattle.std.proofs.Math.Arith.{digits_lt, digits_div, digits_mod}
 use Rattle.generator.specs.declared.Xoshiro256StarStar.{Xoshiro256StarStar}
 use Rattle.lattice.specs.Lattice.{sites, fwd}
-use Rattle.lattice.specs.Shape.{rests_for}
-use Rattle.lattice.proofs.Laws.Shape.{rests-zero}
 use Rattle.clusters.specs.Inside.Sway.{bond}
 use Rattle.clusters.specs.declared.Action.{Action}
 use Rattle.clusters.specs.Update.{bond_at, drawn}
@@ -91,9 +89,8 @@ module _ (g : Given) (sh : List ℕ) (l₀ : Lists) (pl : Plane) (p₀ : Pass) (
       subst (λ (b : ℕ). Stands (call_of g (origin sh x a)) b l p) e (go.keeps x a s)
 
 -- ---- over the sites
-pub record Walking (g : Given) (sh : List ℕ) (l₀ : Lists) (p₀ : Pass) (l : Lists) (p : Pass) (rests : List ℕ) (site : ℕ) : Type 0 where
+pub record Walking (g : Given) (sh : List ℕ) (l₀ : Lists) (p₀ : Pass) (l : Lists) (p : Pass) (site : ℕ) : Type 0 where
   pub inside : site ≤ sites sh
-  pub rest : rests ≡ rests_for sh site
   pub keeps : (a : Action) → Stands (call_of g (origin sh p₀.state a)) (site * length sh) l p
 
 -- no bond yet
@@ -105,29 +102,26 @@ module _ (g : Given) (sh : List ℕ) {l₀ : Lists} {pl : Plane} (start : Start 
   unfolding drawn
   stands-none x a = record { state = refl; active = refl; joint = start.fresh }
 
-  pub walking-none : (x : Xoshiro256StarStar) → Walking g sh l₀ (blank x) l₀ (blank x) (0 ∷ 0 ∷ 0 ∷ 0 ∷ []) 0
+  pub walking-none : (x : Xoshiro256StarStar) → Walking g sh l₀ (blank x) l₀ (blank x) 0
   walking-none x = record {
     inside = omega arith;
-    rest = rests-zero sh;
     keeps = λ a. subst (λ (b : ℕ). Stands (call_of g (origin sh x a)) b l₀ (blank x)) (sym (zero-mul (length sh))) (stands-none x a);
   }
 
   -- with flags that are all clear
   pub walking-clear : (x : Xoshiro256StarStar) (f : Marks) → f.x ≡ false → f.y ≡ false → f.torn ≡ false
-      → Walking g sh l₀ (record { state = x; active = 0; marks = f }) l₀ (record { state = x; active = 0; marks = f }) (0 ∷ 0 ∷ 0 ∷ 0 ∷ []) 0
+      → Walking g sh l₀ (record { state = x; active = 0; marks = f }) l₀ (record { state = x; active = 0; marks = f }) 0
   walking-clear x f a b d =
       let none : record { x = false; y = false; torn = false } ≡ f = λ i. record { x = sym a i; y = sym b i; torn = sym d i } in
-      subst (λ (m : Marks). Walking g sh l₀ (record { state = x; active = 0; marks = m }) l₀ (record { state = x; active = 0; marks = m }) (0 ∷ 0 ∷ 0 ∷ 0 ∷ []) 0) none (walking-none x)
+      subst (λ (m : Marks). Walking g sh l₀ (record { state = x; active = 0; marks = m }) l₀ (record { state = x; active = 0; marks = m }) 0) none (walking-none x)
 
-  module _ {p₀ : Pass} {l : Lists} {p : Pass} {rests : List ℕ} {site : ℕ} (w : Walking g sh l₀ p₀ l p rests site) where
+  module _ {p₀ : Pass} {l : Lists} {p : Pass} {site : ℕ} (w : Walking g sh l₀ p₀ l p site) where
     pub site-at : site < sites sh → (a : Action) → SiteAt g (origin sh p₀.state a) l pl p site
     site-at h a = record { fit = start.fit; plane = start.plane; inside = h; here = w.keeps a }
 
-    pub walking_on : site < sites sh → {l' : Lists} (r : Pass) {rests' : List ℕ} → SiteDone g sh l l' pl p site r → rests' ≡ rests_for sh (site + 1)
-        → Walking g sh l₀ p₀ l' r rests' (site + 1)
-    walking_on h r d e = record {
+    pub walking_on : site < sites sh → {l' : Lists} (r : Pass) → SiteDone g sh l l' pl p site r → Walking g sh l₀ p₀ l' r (site + 1)
+    walking_on h r d = record {
       inside = omega arith;
-      rest = e;
       keeps = λ a. d p₀.state a (site-at h a);
     }
 

@@ -6,7 +6,7 @@ use Rattle.lattice.proofs.fill_site.Given as goal
 
 abbrev pub invariant-loop-axis : goal.invariant-loop-axis
 invariant-loop-axis l =
-    (take (l.site * l.lattice.shape.axes + l.axis) l.up ≡ take (l.site * l.lattice.shape.axes + l.axis) (fwd_table (extents_of l.lattice.shape)))
-    × (take (l.site * l.lattice.shape.axes + l.axis) l.down ≡ take (l.site * l.lattice.shape.axes + l.axis) (bwd_table (extents_of l.lattice.shape)))
-    × (length l.up ≡ l.lattice.shape.sites * l.lattice.shape.axes)
-    × (length l.down ≡ l.lattice.shape.sites * l.lattice.shape.axes)
+    (take (l.site.index * l.site.lattice.now.shape.axes + l.axis) l.up ≡ take (l.site.index * l.site.lattice.now.shape.axes + l.axis) (fwd_table (extents_of l.site.lattice.now.shape)))
+    × (take (l.site.index * l.site.lattice.now.shape.axes + l.axis) l.down ≡ take (l.site.index * l.site.lattice.now.shape.axes + l.axis) (bwd_table (extents_of l.site.lattice.now.shape)))
+    × (length l.up ≡ l.site.lattice.now.shape.sites * l.site.lattice.now.shape.axes)
+    × (length l.down ≡ l.site.lattice.now.shape.sites * l.site.lattice.now.shape.axes)

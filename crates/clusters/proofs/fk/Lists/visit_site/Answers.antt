@@ -12,17 +12,17 @@ use Rattle.clusters.proofs.fk.Lists.visit_site.Goals.{After-ahead-to, In-loop-ax
 inner : (c : In-loop-axis) → c.loop-axis.axis < length (extents_in c.args.input.now)
 inner c = omega (arith, axes-of _ c.args.input.now.lattice.good, c.loop-axis-test.true)
 
-below : (c : In-loop-axis) → c.args.site * c.args.input.now.lattice.shape.axes + c.loop-axis.axis < length c.args.input.now.tile.couplings.now
+below : (c : In-loop-axis) → c.args.site.now.index * c.args.input.now.lattice.shape.axes + c.loop-axis.axis < length c.args.input.now.tile.couplings.now
 below c =
-    bond-below (given_of c.args.input.now) (extents_in c.args.input.now) (lists_of c.args.self.now) (plane_of (extents_in c.args.input.now)) c.args.pass c.args.site
+    bond-below (given_of c.args.input.now) (extents_in c.args.input.now) (lists_of c.args.self.now) (plane_of (extents_in c.args.input.now)) c.args.pass c.args.site.now.index
     c.requires.site_ready _ c.loop-axis.axis (axes-of _ c.args.input.now.lattice.good) c.loop-axis-test.true
 
 -- the neighbour that was found
-found : (c : After-ahead-to) → c.ahead-to.result ≡ fwd (extents_in c.args.input.now) c.args.site c.loop-axis.axis
+found : (c : After-ahead-to) → c.ahead-to.result ≡ fwd (extents_in c.args.input.now) c.args.site.now.index c.loop-axis.axis
 found c = search rules
 
-pub place-requires-clause-site_lt_sites : goal.place-requires-clause-site_lt_sites
-place-requires-clause-site_lt_sites c = omega (arith, sites-of _ c.args.input.now.lattice.good, c.requires.site_ready.2.inside)
+pub place-requires-clause-index_lt_sites : goal.place-requires-clause-index_lt_sites
+place-requires-clause-index_lt_sites c = rw c.requires.lattice_is (omega (arith, sites-of _ c.args.input.now.lattice.good, c.requires.site_ready.2.inside))
 
 pub place-requires-clause-axis_lt_4 : goal.place-requires-clause-axis_lt_4
 place-requires-clause-axis_lt_4 c = omega (arith, axes-le _ c.args.input.now.lattice.good, c.loop-axis-test.true)
@@ -35,19 +35,19 @@ overflow_add-index c = let f = c.args.input.now.fit in let d = domain _ f.domain
 
 pub visit-pass-requires : goal.visit-pass-requires
 visit-pass-requires c =
-    visitable (given_of c.args.input.now) (extents_in c.args.input.now) _ (plane_of (extents_in c.args.input.now)) _ c.args.site c.loop-axis.invariant.1
+    visitable (given_of c.args.input.now) (extents_in c.args.input.now) _ (plane_of (extents_in c.args.input.now)) _ c.args.site.now.index c.loop-axis.invariant.1
     (inner (goal.at.visit-pass-requires c).In-loop-axis) _ (found (goal.at.visit-pass-requires c).After-ahead-to) _ (axes-of _ c.args.input.now.lattice.good)
     c.requires.site_ready
 
 pub loop-axis-preserved : goal.loop-axis-preserved
 loop-axis-preserved c = (
   search rules,
-  going_on (given_of c.args.input.now) (extents_in c.args.input.now) _ (plane_of (extents_in c.args.input.now)) _ c.args.site c.loop-axis.invariant.1
+  going_on (given_of c.args.input.now) (extents_in c.args.input.now) _ (plane_of (extents_in c.args.input.now)) _ c.args.site.now.index c.loop-axis.invariant.1
       (inner (goal.at.loop-axis-preserved c).In-loop-axis) _ (found (goal.at.loop-axis-preserved c).After-ahead-to) _ (axes-of _ c.args.input.now.lattice.good) _
       c.visit-pass.ensures.visited,
 )
 
 pub returns-clause-done : goal.returns-clause-done
 returns-clause-done c =
-    gone (given_of c.args.input.now) (extents_in c.args.input.now) _ (plane_of (extents_in c.args.input.now)) _ c.args.site c.loop-axis.invariant.1
+    gone (given_of c.args.input.now) (extents_in c.args.input.now) _ (plane_of (extents_in c.args.input.now)) _ c.args.site.now.index c.loop-axis.invariant.1
     (omega (arith, axes-of _ c.args.input.now.lattice.good, c.loop-axis-test.false))

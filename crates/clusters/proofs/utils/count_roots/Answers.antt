@@ -1,6 +1,6 @@
 use Rattle.std.proofs.Common.{arith}
 use Rattle.clusters.proofs.Laws.Counts.{tallied-fits, tallied-on, tallied-all}
-use Rattle.clusters.proofs.utils.tally.Goals as goal
+use Rattle.clusters.proofs.utils.count_roots.Goals as goal
 
 pub overflow_add-counts : goal.overflow_add-counts
 overflow_add-counts c =
