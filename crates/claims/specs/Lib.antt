@@ -1,3 +1,4 @@
 pub mod Terms
 pub mod Claims
+pub mod Worked
 pub mod Laws
