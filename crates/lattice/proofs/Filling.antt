@@ -1,6 +1,6 @@
 -- The tables half filled: what one more entry makes of the rows before it, and what all rows are.
 use Rattle.std.specs.Prelude.{ℕ, ◌+◌, ◌*◌, ◌<◌, ◌≡◌, List, [], ◌∷◌, ◌++◌, length, get_or, set, take}
-use Rattle.std.proofs.Common.{ap, ap₂, ◌∙◌, sym, arith}
+use Rattle.std.proofs.Common.{ap, ap₂, ◌∙◌, sym, subst, arith}
 use Rattle.std.proofs.lemmas.List.{take_more, take_more_set, take_all}
 use Rattle.lattice.specs.Lattice.{sites, fwd, bwd, fwd_table, bwd_table}
 use Rattle.lattice.specs.Shape.{extents_of, Good}
@@ -13,6 +13,10 @@ one-more : (xs ts : List ℕ) {n k v : ℕ} → length xs ≡ n → length ts �
     → take (k + 1) (set xs k v) ≡ take (k + 1) ts
 one-more xs ts {n} {k} {v} a b h e t =
     take_more_set xs k v (omega arith) ∙ ap₂ (λ (l : List ℕ) (x : ℕ). l ++ x ∷ []) e (sym t) ∙ sym (take_more ts k 0 (omega arith))
+
+-- alike as far as one number, and so as far as its equal
+pub as_far : (xs ts : List ℕ) {k n : ℕ} → k ≡ n → take k xs ≡ take k ts → take n xs ≡ take n ts
+as_far xs ts e p = subst (λ (m : ℕ). take m xs ≡ take m ts) e p
 
 module _ {s : Shape} (g : Good s) where
   area : s.sites * s.axes ≡ sites (extents_of s) * length (extents_of s)

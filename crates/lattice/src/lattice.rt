@@ -1,7 +1,7 @@
 // A shape that has passed its check, and its first site.
 ghost use Rattle.std.specs.Prelude.{◌≡◌, true, false, IfOk, IfErr};
 ghost use Rattle.lattice.specs.Lattice.{in_domain};
-ghost use Rattle.lattice.specs.Shape.{shape_for, Good};
+ghost use Rattle.lattice.specs.Shape.{shape_for, extents_of, rests_for, Good};
 
 use crate::{Shape, Site, in_domain, shape_of};
 use domain::Refusal;
@@ -30,6 +30,7 @@ impl Lattice {
     pub fn first(&self) -> Site<'_>
         ensures lattice_is { result.lattice.now ≡ self.now }
         ensures index_is { result.index ≡ 0 }
+        ensures rests_are { result.rests ≡ rests_for (extents_of self.now.shape) 0 }
     {
         Site {
             lattice: self,

@@ -1,5 +1,5 @@
 // A site of a lattice, with its rest in its block on each of the four axes: nothing is divided on the way from site to site.
-ghost use Rattle.std.specs.Prelude.{◌≡◌, ◌+◌, ◌<◌};
+ghost use Rattle.std.specs.Prelude.{◌≡◌, ◌+◌, ◌*◌, ◌%◌, ◌<◌};
 ghost use Rattle.lattice.specs.Lattice.{extent, stride};
 ghost use Rattle.lattice.specs.Shape.{extents_of, rests_for};
 
@@ -21,6 +21,7 @@ impl<'a> Site<'a> {
         ensures extent_is { result.extent ≡ extent (extents_of self.now.lattice.now.shape) axis }
         ensures stride_is { result.stride ≡ stride (extents_of self.now.lattice.now.shape) axis }
         ensures site_is { result.site ≡ self.now.index }
+        ensures rest_is { result.rest ≡ self.now.index % (extent (extents_of self.now.lattice.now.shape) axis * stride (extents_of self.now.lattice.now.shape) axis) }
     {
         Place {
             extent: self.lattice.shape.extents[axis],
@@ -35,6 +36,7 @@ impl<'a> Site<'a> {
         requires index_lt_sites { self.now.index < self.now.lattice.now.shape.sites }
         ensures lattice_is { result.lattice.now ≡ self.now.lattice.now }
         ensures index_is { result.index ≡ self.now.index + 1 }
+        ensures rests_are { result.rests ≡ rests_for (extents_of self.now.lattice.now.shape) (self.now.index + 1) }
     {
         let r0 = self.place(0).next_rest();
         let r1 = self.place(1).next_rest();
