@@ -7,7 +7,7 @@ ghost use Rattle.clusters.specs.Sizes.{raised};
 ghost use Rattle.clusters.specs.Update.{ended};
 ghost use Rattle.clusters.specs.Inside.Bare.{sizes_of};
 ghost use Rattle.clusters.specs.Inside.Sway.{bond_of};
-ghost use Rattle.clusters.specs.Inside.Run.{lists, plane_of, plane_in, Done, Joinable, JoinedBy, SiteDone, SiteReady, Start, Visitable, Visited};
+ghost use Rattle.clusters.specs.Inside.Run.{lists, plane_of, plane_in, Done, Joinable, JoinedBy, SiteDone, SiteReady, Sized, Start, Visitable, Visited};
 ghost use Rattle.clusters.specs.Inside.Read.{extents_in, given_of, lists_of, SameLent};
 ghost use Rattle.clusters.specs.Inside.Steps.{held, observed_by, shown, Countable, DrewAll, Room};
 
@@ -53,6 +53,7 @@ impl Lists<'_, '_, '_, '_> {
         requires joinable { Joinable (lists_of self.old) (plane_of (extents_of lattice.now.shape)) marks }
         requires inside { (bond.x < length self.old.links.now.parent.now) × (bond.y < length self.old.links.now.parent.now) × (length self.old.links.now.parent.now ≤ 2 ^ 32) }
         ensures same { SameLent self.old self.new }
+        ensures sized { Sized (lists_of self.old) (lists_of self.new) }
         ensures joined { JoinedBy (lists_of self.old) (lists_of self.new) (bond_of bond) (plane_of (extents_of lattice.now.shape)) marks result }
     {
         self.links.union(bond.x as u32, bond.y as u32);
@@ -66,6 +67,7 @@ impl Lists<'_, '_, '_, '_> {
     fn visit(&mut self, input: &Input<'_>, bond: Bond, index: usize, pass: Pass) -> Pass
         requires { Visitable (given_of input.now) (lists_of self.old) (plane_of (extents_in input.now)) pass (bond_of bond) index }
         ensures same { SameLent self.old self.new }
+        ensures sized { Sized (lists_of self.old) (lists_of self.new) }
         ensures visited { Visited (given_of input.now) (lists_of self.old) (lists_of self.new) (plane_of (extents_in input.now)) pass (bond_of bond) index result }
     {
         let Activation { active, state } = input.tile.visit(bond.x, bond.y, index, pass.state);
@@ -85,6 +87,7 @@ impl Lists<'_, '_, '_, '_> {
         requires lattice_is { site.now.lattice.now ≡ input.now.lattice }
         requires site_ready { SiteReady (given_of input.now) (extents_in input.now) (lists_of self.old) (plane_of (extents_in input.now)) pass site.now.index }
         ensures same { SameLent self.old self.new }
+        ensures sized { Sized (lists_of self.old) (lists_of self.new) }
         ensures done { SiteDone (given_of input.now) (extents_in input.now) (lists_of self.old) (lists_of self.new) (plane_of (extents_in input.now)) pass site.now.index result }
     {
         let lattice = &input.lattice;
@@ -106,6 +109,7 @@ impl Lists<'_, '_, '_, '_> {
     fn visit_all(&mut self, input: &Input<'_>, generator: Xoshiro256StarStar) -> Pass
         requires { Start (given_of input.now) (extents_in input.now) (lists_of self.old) (plane_of (extents_in input.now)) }
         ensures same { SameLent self.old self.new }
+        ensures sized { Sized (lists_of self.old) (lists_of self.new) }
         ensures done { Done (given_of input.now) (extents_in input.now) (lists_of self.new) generator result }
     {
         let mut pass = Pass {

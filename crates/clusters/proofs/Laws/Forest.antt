@@ -113,11 +113,13 @@ climbs {parent} {rank} {parent'} {rank'} {f} x g r r' lt h =
 -- a walk from x, over links as they were in l₀, has come to z, over links as they are in l
 pub record Walked (l₀ : Links) (x : ℕ) (l : Links) (z : ℕ) : Type 0 where
   pub inside : z < length l.parent.now
+  pub sized : length l.parent.now ≡ length l₀.parent.now
   pub keeps : (f : Forest) → Holds l₀ f → (get_or f.roots z 0 ≡ get_or f.roots x 0) × Moved f l₀ l
 
 pub walk-on : {l₀ l : Links} {x z : ℕ} (l' : Links) (g : ℕ) → Valid l₀ → Walked l₀ x l z → Climbed l l' z g → Walked l₀ x l' g
 walk-on l' g v w k = record {
   inside = let u = k v.0 (w.keeps v.0 v.1).1.rep in rw u.1.rep.links u.0.inside;
+  sized = let u = k v.0 (w.keeps v.0 v.1).1.rep in u.1.rep.links ∙ sym v.1.links;
   keeps = λ f r. let b = w.keeps f r in let u = k f b.1.rep in (u.0.same ∙ b.0, kept_on b.1 u.1);
 }
 

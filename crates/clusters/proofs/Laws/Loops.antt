@@ -9,7 +9,7 @@ use Rattle.clusters.specs.declared.Action.{Action}
 use Rattle.clusters.specs.Update.{bond_at, drawn}
 use Rattle.clusters.specs.declared.winding.Marks.{Marks}
 use Rattle.clusters.specs.declared.fk.Pass.{Pass}
-use Rattle.clusters.specs.Inside.Run.{Plane, Lists, Given, call_of, origin, Stands, Visit, Visitable, Visited, SiteAt, SiteReady, SiteDone, Start, Done}
+use Rattle.clusters.specs.Inside.Run.{Plane, Lists, Sized, Given, call_of, origin, Stands, Visit, Visitable, Visited, SiteAt, SiteReady, SiteDone, Start, Done}
 
 -- the bond of a site and a direction
 pub place_of : (sh : List ℕ) (site to axis : ℕ) → axis < length sh → to ≡ fwd sh site axis → bond_at sh (site * length sh + axis) ≡ bond site to axis
@@ -17,14 +17,6 @@ place_of sh site to axis h e =
     let d = digits_div site h in
     let m = digits_mod site h in
     λ i. record { x = d i; y = ((λ j. fwd sh (d j) (m j)) ∙ sym e) i; axis = m i }
-
--- the lists are as long as they were
-pub record Sized (l₀ l : Lists) : Type 0 where
-  pub roots : length l.roots ≡ length l₀.roots
-  pub decisions : length l.decisions ≡ length l₀.decisions
-  pub parents : length l.parents ≡ length l₀.parents
-  pub ranks : length l.ranks ≡ length l₀.ranks
-  pub offsets : length l.offsets ≡ length l₀.offsets
 
 pub sized_none : (l : Lists) → Sized l l
 sized_none l = record { roots = refl; decisions = refl; parents = refl; ranks = refl; offsets = refl }
@@ -41,12 +33,14 @@ sized_on s z = record {
 -- within a site, after `axis` directions
 pub record Going (g : Given) (sh : List ℕ) (l₀ : Lists) (pl : Plane) (p₀ : Pass) (site : ℕ) (l : Lists) (p : Pass) (axis : ℕ) : Type 0 where
   pub inside : axis ≤ length sh
+  pub sized : Sized l₀ l
   pub keeps : (x : Xoshiro256StarStar) (a : Action) → SiteAt g (origin sh x a) l₀ pl p₀ site → Stands (call_of g (origin sh x a)) (site * length sh + axis) l p
 
 module _ (g : Given) (sh : List ℕ) (l₀ : Lists) (pl : Plane) (p₀ : Pass) (site : ℕ) where
   pub going-none : Going g sh l₀ pl p₀ site l₀ p₀ 0
   going-none = record {
     inside = omega arith;
+    sized = sized_none l₀;
     keeps = λ x a s. subst (λ (b : ℕ). Stands (call_of g (origin sh x a)) b l₀ p₀) (sym (add-zero (site * length sh))) s.here;
   }
 
@@ -66,10 +60,11 @@ module _ (g : Given) (sh : List ℕ) (l₀ : Lists) (pl : Plane) (p₀ : Pass) (
       visitable r =
           (origin sh r.0 r.1, subst (λ (n : ℕ). Visit g (origin sh r.0 r.1) l pl p (bond site to axis) (site * n + axis)) (sym em) (visit-of r.0 r.1 r.2))
 
-      pub going_on : {l' : Lists} (r : Pass) → Visited g l l' pl p (bond site to axis) (site * m + axis) r
+      pub going_on : {l' : Lists} (r : Pass) → Sized l l' → Visited g l l' pl p (bond site to axis) (site * m + axis) r
           → Going g sh l₀ pl p₀ site l' r (axis + 1)
-      going_on {l'} r v = record {
+      going_on {l'} r z v = record {
         inside = omega arith;
+        sized = sized_on go.sized z;
         keeps = λ x a s.
             let w : Visited g l l' pl p (bond site to axis) (site * length sh + axis) r = subst (λ (n : ℕ). Visited g l l' pl p (bond site to axis) (site * n + axis) r) em v in
             subst (λ (b : ℕ). Stands (call_of g (origin sh x a)) b l' r) (add_assoc (site * length sh) axis 1) (w (origin sh x a) (visit-of x a s));
@@ -91,6 +86,7 @@ module _ (g : Given) (sh : List ℕ) (l₀ : Lists) (pl : Plane) (p₀ : Pass) (
 -- ---- over the sites
 pub record Walking (g : Given) (sh : List ℕ) (l₀ : Lists) (p₀ : Pass) (l : Lists) (p : Pass) (site : ℕ) : Type 0 where
   pub inside : site ≤ sites sh
+  pub sized : Sized l₀ l
   pub keeps : (a : Action) → Stands (call_of g (origin sh p₀.state a)) (site * length sh) l p
 
 -- no bond yet
@@ -105,6 +101,7 @@ module _ (g : Given) (sh : List ℕ) {l₀ : Lists} {pl : Plane} (start : Start 
   pub walking-none : (x : Xoshiro256StarStar) → Walking g sh l₀ (blank x) l₀ (blank x) 0
   walking-none x = record {
     inside = omega arith;
+    sized = sized_none l₀;
     keeps = λ a. subst (λ (b : ℕ). Stands (call_of g (origin sh x a)) b l₀ (blank x)) (sym (zero-mul (length sh))) (stands-none x a);
   }
 
@@ -119,9 +116,10 @@ module _ (g : Given) (sh : List ℕ) {l₀ : Lists} {pl : Plane} (start : Start 
     pub site-at : site < sites sh → (a : Action) → SiteAt g (origin sh p₀.state a) l pl p site
     site-at h a = record { fit = start.fit; plane = start.plane; inside = h; here = w.keeps a }
 
-    pub walking_on : site < sites sh → {l' : Lists} (r : Pass) → SiteDone g sh l l' pl p site r → Walking g sh l₀ p₀ l' r (site + 1)
-    walking_on h r d = record {
+    pub walking_on : site < sites sh → {l' : Lists} (r : Pass) → Sized l l' → SiteDone g sh l l' pl p site r → Walking g sh l₀ p₀ l' r (site + 1)
+    walking_on h r z d = record {
       inside = omega arith;
+      sized = sized_on w.sized z;
       keeps = λ a. d p₀.state a (site-at h a);
     }
 

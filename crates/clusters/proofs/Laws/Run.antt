@@ -1,24 +1,25 @@
 -- One bond more.
-use Rattle.std.specs.Prelude.{◌≡◌, Bool, true, false, cond, List, [], ◌∷◌, ◌++◌, ℕ, zero, suc, ◌+◌, ◌*◌, ◌<◌, ◌≤◌, length, refl, Option, Some, None}
+use Rattle.std.specs.Prelude.{◌≡◌, Bool, true, false, cond, List, [], ◌∷◌, ◌++◌, ℕ, zero, suc, ◌+◌, ◌*◌, ◌<◌, ◌≤◌, length, ℤ, refl, Option, Some, None}
 use Rattle.std.proofs.Common.{sym, ap, ◌∙◌, subst, append-nil, add-one, arith, length-append}
 use Rattle.lattice.specs.Lattice.{sites, in_domain}
 use Rattle.lattice.proofs.Laws.Neighbours.{domain, extent-pos}
 use Rattle.bonds.specs.declared.Activation.{Activation}
 use Rattle.bonds.specs.Visit.{visit_of}
-use Rattle.graph.specs.Forest.{Bond, Forest, forest, join}
+use Rattle.graph.specs.Forest.{Bond, Forest, root_of, absorb, unite, forest, join}
 use Rattle.graph.specs.Walk.{Within}
-use Rattle.graph.proofs.Laws.Roots.{sound-forest}
+use Rattle.graph.proofs.Laws.Lookup.{length-relabel}
+use Rattle.graph.proofs.Laws.Roots.{sound-forest, unite-cases}
 use Rattle.graph.proofs.Laws.Same.{forest-next}
-use Rattle.clusters.specs.Inside.Rep.{Rep, Holds, Joined}
+use Rattle.clusters.specs.Inside.Rep.{Rep, Holds, Valid, Joined}
 use Rattle.clusters.specs.declared.links.Links.{Links}
 use Rattle.clusters.specs.declared.winding.Marks.{Marks}
-use Rattle.clusters.specs.Inside.Sway.{next}
+use Rattle.clusters.specs.Inside.Sway.{Scene, Swung, next}
 use Rattle.clusters.specs.Call.{Call}
 use Rattle.clusters.specs.Update.{bond_at, visit_at, drawn}
 use Rattle.clusters.proofs.Laws.Places.{place}
 use Rattle.clusters.proofs.Laws.Drawn.{drawn-sound}
 use Rattle.clusters.specs.declared.fk.Pass.{Pass}
-use Rattle.clusters.specs.Inside.Run.{Plane, plane_in, Lists, Given, Origin, call_of, scene, plane_of, Joint, Turned, Stands, Visit}
+use Rattle.clusters.specs.Inside.Run.{Plane, plane_in, Lists, Sized, Given, Origin, call_of, scene, plane_of, Joint, Turned, Stands, Visit}
 
 -- the forest's side of a bond
 pub forest-joined : (n : ℕ) (bs : List Bond) (c : Bond) (l l' : Links) → Holds l (forest n bs) → Joined l l' c.x c.y → Holds l' (forest n (bs ++ c ∷ []))
@@ -72,6 +73,33 @@ roots-sized n bs w r = r.links ∙ (sound-forest n bs w).roots-n
 pub one_size : (n : ℕ) (pl : Plane) (bs : List Bond) {l : Lists} {f : Marks} → Rep l.roots l.decisions (forest n bs) → Turned (scene n pl bs) l f
     → length l.parents ≡ length l.roots
 one_size n pl bs r t = t.swung.hangs.parents-n ∙ sym (roots-sized n bs t.swung.within r)
+
+-- ---- a join leaves the five lists as long as they were
+length-unite : (f : Forest) (p q : ℕ) → length (unite f p q).roots ≡ length f.roots
+unfolding absorb
+length-unite f p q = unite-cases (λ (u : Forest). length u.roots ≡ length f.roots) f p q (λ _. refl) (λ w l _. length-relabel w l f.roots)
+
+-- the two of the links
+pub links-sized : (l l' : Links) (x y : ℕ) → Valid l → Joined l l' x y → (length l'.parent.now ≡ length l.parent.now) × (length l'.rank.now ≡ length l.rank.now)
+links-sized l l' x y v j =
+    let h = v.1 in
+    let k = j v.0 h in
+    let e = length-unite v.0 (root_of v.0 x) (root_of v.0 y) in
+    (k.links ∙ e ∙ sym h.links, ap length k.ranks ∙ k.grown.sized ∙ e ∙ sym h.grown.sized ∙ sym (ap length h.ranks))
+
+-- the three of the winding, where it is kept
+swung-ranks-n : {k : Scene} {ps rs : List ℕ} {os : List ℤ} → Swung k ps rs os → length rs ≡ k.n
+swung-ranks-n {k} s = ap length s.ranks ∙ (sound-forest k.n k.bonds s.within).ranks-n
+
+pub swung-sized : (k : Scene) (c : Bond) {l l' : Lists} → length l'.roots ≡ length l.roots → length l'.decisions ≡ length l.decisions
+    → Swung k l.parents l.ranks l.offsets → Swung (next k c) l'.parents l'.ranks l'.offsets → Sized l l'
+swung-sized k c r d s s' = record {
+  roots = r;
+  decisions = d;
+  parents = s'.hangs.parents-n ∙ sym s.hangs.parents-n;
+  ranks = swung-ranks-n s' ∙ sym (swung-ranks-n s);
+  offsets = s'.sized ∙ sym s.sized;
+}
 
 -- ---- the plane: the code has its extents where there are two axes
 first-of : Option (ℕ × ℕ) → ℕ

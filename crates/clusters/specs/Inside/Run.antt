@@ -24,6 +24,14 @@ pub record Lists : Type 0 where
 abbrev pub lists : List ℕ → List ℕ → List ℕ → List ℕ → List ℤ → Lists
 lists fs ks ps rs os = record { roots = fs; decisions = ks; parents = ps; ranks = rs; offsets = os }
 
+-- the lists are as long as they were
+pub record Sized (l₀ l : Lists) : Type 0 where
+  pub roots : length l.roots ≡ length l₀.roots
+  pub decisions : length l.decisions ≡ length l₀.decisions
+  pub parents : length l.parents ≡ length l₀.parents
+  pub ranks : length l.ranks ≡ length l₀.ranks
+  pub offsets : length l.offsets ≡ length l₀.offsets
+
 -- the extents of the first two axes, and whether there are just two
 pub record Plane : Type 0 where
   pub ex : ℕ

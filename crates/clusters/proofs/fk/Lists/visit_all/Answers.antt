@@ -25,7 +25,7 @@ pub loop-preserved : goal.loop-preserved
 loop-preserved c =
     let i = c.loop.invariant in
     let n = c.next-site.ensures in
-    let w = walking_on (given_of c.args.input.now) (extents_in c.args.input.now) c.requires i.3 (inner (goal.at.loop-preserved c).In-loop) _ c.visit_site-pass.ensures.done in
+    let w = walking_on (given_of c.args.input.now) (extents_in c.args.input.now) c.requires i.3 (inner (goal.at.loop-preserved c).In-loop) _ c.visit_site-pass.ensures.sized c.visit_site-pass.ensures.done in
     (search rules, search rules, search rules, rw n.index_is w)
 
 pub returns-clause-done : goal.returns-clause-done

@@ -44,7 +44,7 @@ loop-axis-preserved c = (
   search rules,
   going_on (given_of c.args.input.now) (extents_in c.args.input.now) _ (plane_of (extents_in c.args.input.now)) _ c.args.site.now.index c.loop-axis.invariant.1
       (inner (goal.at.loop-axis-preserved c).In-loop-axis) _ (found (goal.at.loop-axis-preserved c).After-ahead-to) _ (axes-of _ c.args.input.now.lattice.good) _
-      c.visit-pass.ensures.visited,
+      c.visit-pass.ensures.sized c.visit-pass.ensures.visited,
 )
 
 pub returns-clause-done : goal.returns-clause-done
