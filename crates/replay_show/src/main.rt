@@ -6,12 +6,18 @@ use generator::Xoshiro256StarStar;
 use std::io;
 
 fn rows(rt: &impl Print) -> io::Result<()> {
-    print!(rt; "spins ")?;
+    rt.write_all(b"spins ")?;
     show::spins(rt, &[1, -1, 0, -128, 127])?;
     show::row(rt, &[0u8, 1, 255])?;
     show::row(rt, &[0u32, 4294967295])?;
     show::row(rt, &[0u64, 18446744073709551615])?;
-    show::row(rt, &[-9223372036854775808i64, 0, 9223372036854775807])
+    show::wides(rt, &[-9223372036854775808, 0, 9223372036854775807])
+}
+
+// A refusal word by word, as a writer that fails in between leaves it.
+fn refusal(rt: &impl Print, reason: Refusal) -> io::Result<()> {
+    rt.write_all(b"refused ")?;
+    show::row(rt, &[reason.number(), reason.place() as u64])
 }
 
 fn answers(rt: &impl Print) -> io::Result<()> {
@@ -21,10 +27,15 @@ fn answers(rt: &impl Print) -> io::Result<()> {
         s2: 3,
         s3: 4,
     };
-    println!(rt; "{generator}")?;
-    rt.println(Refusal::Length)?;
-    rt.println(Refusal::Coupling(7))?;
-    println!(rt; "{}{}", 3, -4)
+    show::row(
+        rt,
+        &[generator.s0, generator.s1, generator.s2, generator.s3],
+    )?;
+    refusal(rt, Refusal::Length)?;
+    refusal(rt, Refusal::Coupling(7))?;
+    rt.print(3)?;
+    show::signed(rt, -4)?;
+    rt.write_all(b"\n")
 }
 
 fn main(rt: HostRuntime) -> io::Result<()> {

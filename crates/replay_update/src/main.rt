@@ -1,10 +1,18 @@
 // Calls fk_update on worked examples, odd shapes and each refusal, and writes what each call answers and leaves.
 #![tactic(auto)]
 
+ghost use Rattle.std.specs.Prelude.{◌*◌, ◌≤◌, length};
+ghost use Rattle.replay_update.specs.declared.TheConstants.{SITES};
+
 use clusters::{Action, Job, Seen};
 use generator::Xoshiro256StarStar;
-use std::alloc::Global;
-use std::io;
+use std::{array, io};
+
+// The most sites of any shape here, 3x5: each buffer is a prefix of an array, so that nothing is allocated.
+const SITES: usize = 15;
+
+// The most bonds of any shape here, 2x2x3.
+const BONDS: usize = 36;
 
 const SEED: Xoshiro256StarStar = Xoshiro256StarStar {
     s0: 1,
@@ -20,11 +28,12 @@ const DEAD: Xoshiro256StarStar = Xoshiro256StarStar {
     s3: 0,
 };
 
-// How many sites the buffers are made for, and what each entry of the histogram is on entry.
+// How many sites the buffers are lent for, and what each entry of the histogram is on entry.
 #[derive(Clone, Copy)]
 struct Room {
     sites: usize,
     entry: u64,
+    ghost fits: { sites ≤ SITES },
 }
 
 fn answer(rt: &impl Print, seen: Seen) -> io::Result<()> {
@@ -40,49 +49,32 @@ fn answer(rt: &impl Print, seen: Seen) -> io::Result<()> {
 }
 
 // One call on buffers that hold sevens, and all that it leaves.
-fn call(
-    rt: &impl Print,
-    alloc: Global,
-    name: &str,
-    job: Job<'_>,
-    spins: &[i8],
-    room: Room,
-) -> io::Result<()> {
+fn call(rt: &impl Print, name: &str, job: Job<'_>, spins: &mut [i8], room: Room) -> io::Result<()> {
     let n = room.sites;
-    let mut spins = Vec::from_slice(alloc, spins)?;
-    let mut roots = vec![in alloc; 7u32; n]?;
-    let mut counts = vec![in alloc; 7u32; n]?;
-    let mut decisions = vec![in alloc; 7u8; n]?;
-    let mut histogram = vec![in alloc; room.entry; n + 1]?;
-    let mut parents = vec![in alloc; 7u32; n]?;
-    let mut ranks = vec![in alloc; 7u8; n]?;
-    let mut offsets = vec![in alloc; 7i64; 2 * n]?;
-    let mut marks = vec![in alloc; 7u8; 2 * n]?;
+    let roots = &mut [7u32; SITES][..n];
+    let counts = &mut [7u32; SITES][..n];
+    let decisions = &mut [7u8; SITES][..n];
+    let histogram = &mut [room.entry; SITES + 1][..n + 1];
+    let parents = &mut [7u32; SITES][..n];
+    let ranks = &mut [7u8; SITES][..n];
+    let offsets = &mut [7i64; 2 * SITES][..2 * n];
+    let marks = &mut [7u8; 2 * SITES][..2 * n];
     println!(rt; "{name}")?;
     match clusters::fk_update(
-        job,
-        &mut spins,
-        &mut roots,
-        &mut counts,
-        &mut decisions,
-        &mut histogram,
-        &mut parents,
-        &mut ranks,
-        &mut offsets,
-        &mut marks,
+        job, spins, roots, counts, decisions, histogram, parents, ranks, offsets, marks,
     ) {
         Ok(seen) => answer(rt, seen)?,
         Err(refusal) => println!(rt; "{refusal}")?,
     }
-    show::spins(rt, &spins)?;
-    show::row(rt, &roots)?;
-    show::row(rt, &counts)?;
-    show::row(rt, &decisions)?;
-    show::row(rt, &histogram)?;
-    show::row(rt, &parents)?;
-    show::row(rt, &ranks)?;
-    show::row(rt, &offsets)?;
-    show::row(rt, &marks)
+    show::spins(rt, spins)?;
+    show::row(rt, roots)?;
+    show::row(rt, counts)?;
+    show::row(rt, decisions)?;
+    show::row(rt, histogram)?;
+    show::row(rt, parents)?;
+    show::row(rt, ranks)?;
+    show::row(rt, offsets)?;
+    show::row(rt, marks)
 }
 
 fn coupling_at(bond: usize) -> f32 {
@@ -99,44 +91,37 @@ fn spin_at(site: usize) -> i8 {
     if (site % 3 * 5 + 1) % 3 == 0 { -1 } else { 1 }
 }
 
-// A shape of n sites with spins and couplings by their places, and two classes.
+// A shape with spins and couplings by their places, and two classes.
 fn patterned(
     rt: &impl Print,
-    alloc: Global,
     name: &str,
     extents: &[usize],
-    n: u8,
+    sites: usize,
     action: Action,
-) -> io::Result<()> {
-    let sites = usize::from(n);
-    let mut spins = Vec::new(alloc);
-    for site in 0..sites {
-        spins.push(spin_at(site))?;
-    }
-    let mut couplings = Vec::new(alloc);
-    for _ in 0..sites {
-        for _ in extents {
-            couplings.push(coupling_at(couplings.len()))?;
-        }
-    }
+) -> io::Result<()>
+    requires sites { sites ≤ SITES }
+    requires bonds { sites * length extents.now ≤ BONDS }
+{
+    let mut spins: [i8; SITES] = array::from_fn(spin_at);
+    let couplings: [f32; BONDS] = array::from_fn(coupling_at);
     let job = Job {
         extents,
-        couplings: &couplings,
+        couplings: &couplings[..sites * extents.len()],
         weights: &[1.0, 2.0],
         thresholds: &[2700000000000000000, 1500000000000000000],
         generator: SEED,
         action,
     };
-    call(rt, alloc, name, job, &spins, Room { sites, entry: 5 })
+    call(rt, name, job, &mut spins[..sites], Room { sites, entry: 5 })
 }
 
-fn shapes(rt: &impl Print, alloc: Global) -> io::Result<()> {
-    patterned(rt, alloc, "3x5", &[3, 5], 15, Action::Update)?;
-    patterned(rt, alloc, "3x5 observed", &[3, 5], 15, Action::Observe)?;
-    patterned(rt, alloc, "5x3", &[5, 3], 15, Action::Update)?;
-    patterned(rt, alloc, "1x7", &[1, 7], 7, Action::Update)?;
-    patterned(rt, alloc, "2x2x3", &[2, 2, 3], 12, Action::Update)?;
-    patterned(rt, alloc, "1x1x1x1", &[1, 1, 1, 1], 1, Action::Update)
+fn shapes(rt: &impl Print) -> io::Result<()> {
+    patterned(rt, "3x5", &[3, 5], 15, Action::Update)?;
+    patterned(rt, "3x5 observed", &[3, 5], 15, Action::Observe)?;
+    patterned(rt, "5x3", &[5, 3], 15, Action::Update)?;
+    patterned(rt, "1x7", &[1, 7], 7, Action::Update)?;
+    patterned(rt, "2x2x3", &[2, 2, 3], 12, Action::Update)?;
+    patterned(rt, "1x1x1x1", &[1, 1, 1, 1], 1, Action::Update)
 }
 
 // A job with the generator (1, 2, 3, 4) and one class, of weight 1 and always active.
@@ -151,7 +136,7 @@ fn job<'a>(extents: &'a [usize], couplings: &'a [f32], action: Action) -> Job<'a
     }
 }
 
-fn examples(rt: &impl Print, alloc: Global) -> io::Result<()> {
+fn examples(rt: &impl Print) -> io::Result<()> {
     let pair = job(&[2], &[1.0, 1.0], Action::Update);
     let two = Room { sites: 2, entry: 5 };
     let w3 = Job {
@@ -162,83 +147,71 @@ fn examples(rt: &impl Print, alloc: Global) -> io::Result<()> {
         thresholds: &[2881],
         ..pair
     };
-    call(rt, alloc, "W3", w3, &[1, 1], two)?;
-    call(rt, alloc, "W4", w4, &[1, 1], two)?;
+    call(rt, "W3", w3, &mut [1, 1], two)?;
+    call(rt, "W4", w4, &mut [1, 1], two)?;
     let one = Room { sites: 1, entry: 5 };
     let w5 = job(&[1, 1], &[1.0, 1.0], Action::Observe);
-    call(rt, alloc, "W5", w5, &[1], one)?;
+    call(rt, "W5", w5, &mut [1], one)?;
     let four = Room { sites: 4, entry: 5 };
     let w6 = job(
         &[2, 2],
         &[1.0, 0.0, 0.0, 0.0, 0.0, 0.0, 0.0, 0.0],
         Action::Observe,
     );
-    call(rt, alloc, "W6", w6, &[1, 1, 1, 1], four)?;
+    call(rt, "W6", w6, &mut [1, 1, 1, 1], four)?;
     let w7 = Job {
         couplings: &[1.0, 0.0, 0.0, 0.0, 1.0, 0.0, 0.0, 0.0],
         ..w6
     };
-    call(rt, alloc, "W7", w7, &[1, 1, 1, 1], four)?;
-    call(
-        rt,
-        alloc,
-        "W9",
-        job(&[1], &[-1.0], Action::Update),
-        &[1],
-        one,
-    )?;
+    call(rt, "W7", w7, &mut [1, 1, 1, 1], four)?;
+    call(rt, "W9", job(&[1], &[-1.0], Action::Update), &mut [1], one)?;
     let couplings = [1.0f32 / 0.0, 1.0];
     let w11 = job(&[2], &couplings, Action::Update);
-    call(rt, alloc, "W11", w11, &[0, 1], two)
+    call(rt, "W11", w11, &mut [0, 1], two)
 }
 
-fn refusals(rt: &impl Print, alloc: Global) -> io::Result<()> {
+fn refusals(rt: &impl Print) -> io::Result<()> {
     let pair = job(&[2], &[1.0, 1.0], Action::Update);
     let two = Room { sites: 2, entry: 5 };
-    let up = [1i8, 1];
     let high = Room {
         sites: 2,
         entry: 9223372036854775809,
     };
     call(
         rt,
-        alloc,
         "no axes",
         Job {
             extents: &[],
             ..pair
         },
-        &up,
+        &mut [1, 1],
         two,
     )?;
     call(
         rt,
-        alloc,
         "an extent of 0",
         Job {
             extents: &[0],
             ..pair
         },
-        &up,
+        &mut [1, 1],
         two,
     )?;
     call(
         rt,
-        alloc,
         "a length",
         pair,
-        &up,
+        &mut [1, 1],
         Room { sites: 3, entry: 5 },
     )?;
     call(
         rt,
-        alloc,
         "a dead generator",
         Job {
             generator: DEAD,
             ..pair
         },
-        &up,
+        &mut [1, 1],
         two,
     )?;
     let repeated = Job {
@@ -246,31 +219,30 @@ fn refusals(rt: &impl Print, alloc: Global) -> io::Result<()> {
         thresholds: &[1, 2],
         ..pair
     };
-    call(rt, alloc, "a weight repeated", repeated, &up, two)?;
+    call(rt, "a weight repeated", repeated, &mut [1, 1], two)?;
     let above = Job {
         thresholds: &[4611686018427387905],
         ..pair
     };
-    call(rt, alloc, "a threshold above 2^62", above, &up, two)?;
-    call(rt, alloc, "a spin of 3", pair, &[1, 3], two)?;
+    call(rt, "a threshold above 2^62", above, &mut [1, 1], two)?;
+    call(rt, "a spin of 3", pair, &mut [1, 3], two)?;
     let unclassed = Job {
         couplings: &[1.0, 3.0],
         ..pair
     };
-    call(rt, alloc, "a coupling in no class", unclassed, &up, two)?;
-    call(rt, alloc, "an entry above 2^63", pair, &up, high)?;
+    call(rt, "a coupling in no class", unclassed, &mut [1, 1], two)?;
+    call(rt, "an entry above 2^63", pair, &mut [1, 1], high)?;
     let couplings = [1.0f32 / 0.0, 3.0];
     let wrong = Job {
         couplings: &couplings,
         generator: DEAD,
         ..above
     };
-    call(rt, alloc, "everything wrong", wrong, &[1, 3], high)
+    call(rt, "everything wrong", wrong, &mut [1, 3], high)
 }
 
 fn main(rt: HostRuntime) -> io::Result<()> {
-    let alloc = rt.alloc();
-    examples(&rt, alloc)?;
-    shapes(&rt, alloc)?;
-    refusals(&rt, alloc)
+    examples(&rt)?;
+    shapes(&rt)?;
+    refusals(&rt)
 }
