@@ -14,7 +14,7 @@ fn rows(rt: &impl Print) -> io::Result<()> {
     show::wides(rt, &[-9223372036854775808, 0, 9223372036854775807])
 }
 
-// A refusal word by word, as a writer that fails in between leaves it.
+// A refusal in pieces: where a write fails in between, the pieces before it stand.
 fn refusal(rt: &impl Print, reason: Refusal) -> io::Result<()> {
     rt.write_all(b"refused ")?;
     show::row(rt, &[reason.number(), reason.place() as u64])
